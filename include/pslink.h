@@ -93,7 +93,7 @@ extern "C" {
 /* made by man/make_constants.py from crates/ps_c_texts/src/kinds.rt: the texts */
 #define PSLINK_MAP 0u        /* the map of the link: what it puts where */
 #define PSLINK_REFERENCES 1u /* that map, and then each place at which the link stores bytes */
-#define PSLINK_SHOW 2u       /* what files[0] has: its slots, and its link information */
+#define PSLINK_SHOW 2u       /* what the first file has: its slots, and its link information */
 #define PSLINK_CHECK 3u      /* the report on the files, for a person: where each segment comes from,
                                 whether they are linked, what a fault means in these files and what to
                                 do about it, and what else is found */
@@ -109,13 +109,14 @@ extern "C" {
    There is none where files[0] is linked already, or where its list says that it is something else
    than a code file. */
 /* made by man/make_constants.py from crates/ps_c_texts/src/kinds.rt: the names of units */
-#define PSLINK_WANTED 7u /* the units that the slots of the host want, by slot, and then those that a
-                            record requests, of the host or of a unit that was found, and no slot of
-                            the host has, in the order of their requests, ten of these at most. They
-                            are told as far as a link reads: a segment that cannot be read requests
-                            none, and no unit is looked for after one that is missing. Each name is
-                            there once, whether the libraries have the unit or not */
-#define PSLINK_HAD 8u    /* the units whose code files[0] has, by slot */
+#define PSLINK_WANTED 7u /* the units that a link takes from libraries, or would take if a library had
+                            them, each once. First come those that the slots of the host want, by
+                            slot. Then come those that a record requests, of the host or of a unit
+                            that was found, and no slot of the host has: in the order of their
+                            requests, ten of these at most. They are told as far as a link reads: a
+                            segment that cannot be read requests none, and no unit is looked for after
+                            one that is missing */
+#define PSLINK_HAD 8u    /* the units whose code the first file has, by slot */
 /* end */
 
 /* PSLINK_MAP | PSLINK_JSON and so on: one JSON document in place of lines, as the program prints it

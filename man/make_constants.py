@@ -2,8 +2,8 @@
 """Writes the faults into include/pslink.h and bindings/rust/src/reason.rs, between the comment that names this script and the
 next one, from the variants of `Reason`, so that they have one home; the highest number of them into the comments of reason.rs and
 into docs/json-schema.json; library/faults.h and web/pslink.mjs, which have the name of each with the sentences that `pslink check` prints; the
-texts of `kinds.rt` into include/pslink.h, each with what is said of it there, library/kinds.h, web/pslink.mjs and the Python package; and the
-release of CHANGES.md into the header and the bindings.
+texts of `kinds.rt` into include/pslink.h, docs/EMBEDDING.md and the Rust crate, each with what is said of it there, library/kinds.h,
+web/pslink.mjs, web/README.md and the Python package; and the release of CHANGES.md into the header and the bindings.
 Usage: make_constants.py [FOLDER], which is the files' own if none is given."""
 import pathlib
 import re
@@ -13,6 +13,7 @@ from typing import NamedTuple
 
 import release
 from make_fault_table import ROOT, numbers, sentences
+from make_instructions import with_table
 
 FAULTS_FROM = "crates/ps_words/src/fault.rt"
 KINDS_FROM = "crates/ps_c_texts/src/kinds.rt"
@@ -22,7 +23,9 @@ REASONS = ROOT / "bindings/rust/src/reason.rs"
 SCHEMA = ROOT / "docs/json-schema.json"
 SAID = ROOT / "library/faults.h"
 TABLE = ROOT / "library/kinds.h"
-SCRIPT = ROOT / "web/pslink.mjs"
+SCRIPT, OF_SCRIPT = ROOT / "web/pslink.mjs", ROOT / "web/README.md"
+PAGE = ROOT / "docs/EMBEDDING.md"
+HEAD = "| `what` | What it makes | The program prints it by |\n|---|---|---|\n"
 RUST, PYTHON = ROOT / "bindings/rust/src/lib.rs", ROOT / "bindings/python/pslink/__init__.py"
 PACKAGE = ROOT / "bindings/rust/Cargo.toml"
 # what a status says, by its number
@@ -83,6 +86,10 @@ class Kind(NamedTuple):
     def constant(self):
         return f"PSLINK_{self.name}"
 
+    @property
+    def word(self):
+        return self.name.lower()
+
 
 def kinds(function):
     """The texts that a function of the source gives by their numbers, in their order: `kind_in` those that have a document, `text_kind`
@@ -138,6 +145,12 @@ def texts():
     yield "};\n"
 
 
+def page():
+    """The page on the library in C, with the texts: what is said of each, and the command that prints it."""
+    rows = [f"| `{kind.constant}` | {kind.words} | {kind.command and f'`pslink {kind.command}`'} |\n" for kind in TEXTS + NAMES]
+    return with_table(PAGE.read_text(), HEAD, rows)
+
+
 def between(text, source, lines):
     """The text of a file with these lines between the comment that names this script, with what it makes them from, and the next one."""
     pattern = rf"(make_constants\.py from {re.escape(source)}(?: \*/)?\n).*?(^ *(?:/\*|//) end)"
@@ -174,17 +187,41 @@ def replaced(text, *places):
 
 def script():
     """The module in JavaScript, with the faults, and with the texts by their numbers."""
-    listed = ", ".join(f"{kind.name.lower()}: {kind.number}" for kind in TEXTS + NAMES)
-    of_names = ", ".join(f'"{kind.name.lower()}"' for kind in NAMES)
+    listed = ", ".join(f"{kind.word}: {kind.number}" for kind in TEXTS + NAMES)
+    of_names = ", ".join(f'"{kind.word}"' for kind in NAMES)
     text = between(SCRIPT.read_text(), FAULTS_FROM, said("  [", "],\n"))
     return replaced(text, (r"(TEXTS = Object\.freeze\(\{\n  __proto__: null,\n  ).*(,$)", listed), (r"^(const OF_NAMES = .*\[).*(\])", of_names))
 
 
 def package():
     """The module in Python, with the texts by their numbers."""
-    words = ", ".join(f'"{kind.name.lower()}"' for kind in TEXTS)
-    listed = ", ".join(f'"{kind.name.lower()}": {kind.number}' for kind in TEXTS)
+    words = ", ".join(f'"{kind.word}"' for kind in TEXTS)
+    listed = ", ".join(f'"{kind.word}": {kind.number}' for kind in TEXTS)
     return replaced(PYTHON.read_text(), (r"^(Text = Literal\[).*(\])", words), (r"^(_TEXTS = \{).*(\})", listed))
+
+
+def page_of_script():
+    """The page on the module in JavaScript, with the words of the texts; of names of units also the first sentence of what is said of them."""
+    *most, last = (f'`"{kind.word}"`' for kind in TEXTS)
+    of_names = ". ".join(f'`"{kind.word}"`: {kind.words.partition(". ")[0]}' for kind in NAMES)
+    places = (r"(as the program prints it: kind is ).*( \|)$", f"{', '.join(most)} or {last}"), (r"(\| `names` of units\. ).*( \|)$", of_names)
+    return replaced(OF_SCRIPT.read_text(), *places)
+
+
+def variants_of_texts():
+    """The texts that have a document as Rust has them, each with what is said of it."""
+    for kind in TEXTS:
+        said = textwrap.wrap(f"{kind.words[0].upper()}{kind.words[1:]}.", 88, break_long_words=False, break_on_hyphens=False)
+        printed = ["", f"The command `{kind.command}` prints it."] if kind.command else []
+        yield from (f"    /// {line}".rstrip() + "\n" for line in said + printed)
+        yield f"    {kind.word.capitalize()} = {kind.number},\n"
+
+
+def crate():
+    """The Rust crate, with the texts by their numbers."""
+    of_names = [f"const {kind.name}: u32 = {kind.number};\n" for kind in NAMES]
+    text = between(RUST.read_text(), f"{KINDS_FROM}: the texts", variants_of_texts())
+    return between(text, f"{KINDS_FROM}: the names of units", of_names)
 
 
 def with_release(file, text):
@@ -200,12 +237,15 @@ def made():
     """Each file, as this script writes it."""
     yield HEADER, with_release(HEADER, header())
     yield PYTHON, with_release(PYTHON, package())
-    yield from ((file, with_release(file, file.read_text())) for file in (PACKAGE, RUST))
+    yield RUST, with_release(RUST, crate())
+    yield PACKAGE, with_release(PACKAGE, PACKAGE.read_text())
     yield REASONS, with_highest(REASONS, between(REASONS.read_text(), FAULTS_FROM, variants()))
     yield SCHEMA, with_highest(SCHEMA, SCHEMA.read_text())
     yield SAID, "".join(texts())
     yield TABLE, "".join(table())
     yield SCRIPT, script()
+    yield OF_SCRIPT, page_of_script()
+    yield PAGE, page()
 
 
 def main():

@@ -248,7 +248,7 @@ def of_texts():
     check(text("references", *files).startswith(pslink.map(*files)), "a map with references has no map")
     check(text("list", *named).startswith("one: little-endian, 1536 bytes, host\n"), "a list names its files otherwise")
     check(text("list", HOST).startswith(f"{HOST}: "), "a list of a path names it otherwise")
-    for what in ("map", "references", "show", "check", "list", "units", "findings"):
+    for what in typing.get_args(pslink.Text):
         json.loads(text(what, *files, json=True))
     document = json.loads(text("check", HOST, [changed(LIBRARY, at530=b"\3")], json=True))
     check([finding["weight"] for finding in document["findings"]] == ["note"], f"what is found is {document['findings']}")

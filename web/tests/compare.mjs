@@ -7,6 +7,7 @@ import {createInterface} from "node:readline";
 import {STATUSES, load} from "../pslink.mjs";
 import {Checks, filesOf} from "./checks.mjs";
 
+const MISUSE = 2;
 const checks = new Checks();
 
 /** What native.py tells of an answer; of none, why there is none. */
@@ -34,7 +35,8 @@ async function checkUnits(pslink, what, kind, files, text) {
 
 async function checkAnswer(pslink, set, name, files) {
   const what = `${set.name}: ${name}`, [kind, form] = name.split(" ");
-  const isLink = kind === "link", isOfNames = kind === "wanted" || kind === "had";
+  // (names of units have no document)
+  const isLink = kind === "link", isOfNames = set.answers[`${kind} json`]?.[0] === MISUSE;
   const result = isLink ? await pslink.link(files) : await pslink.text(kind, files, {json: form === "json"});
   checks.same(what, told(result), set.answers[name]);
   checkBeside(what, result, isLink ? null : isOfNames ? "latin1" : "utf8");

@@ -11,7 +11,10 @@ import sys
 
 import cases
 
-TEXTS = ["map", "references", "show", "check", "list", "units", "findings", "wanted", "had"]
+sys.path.insert(0, str(cases.ROOT / "man"))
+import make_constants
+
+TEXTS = {int(kind.number): kind.word for kind in make_constants.TEXTS + make_constants.NAMES}
 JSON_FORM, LINKED_MAX, LINE_MAX = 256, 524800, 160
 INDEXES, NUMBERS = ("file", "record", "reference"), ("slot", "kind")
 COUNTS = ("segments", "private_words", "blocks", "warnings")
@@ -62,7 +65,7 @@ class Library:
         answer = Answer()
         self.calls.pslink_link(files, len(files), self.room, len(self.room), ctypes.byref(answer))
         found = {"link": self.told(answer)}
-        for number, text in enumerate(TEXTS):
+        for number, text in TEXTS.items():
             found[text] = self.text(number, files)
             found[f"{text} json"] = self.text(number | JSON_FORM, files)
         return found

@@ -49,8 +49,10 @@ const MISUSE: u32 = 2;
 const NO_MEMORY: u32 = 4;
 const TOO_SMALL: u32 = 5;
 
+// made by man/make_constants.py from crates/ps_c_texts/src/kinds.rt: the names of units
 const WANTED: u32 = 7;
 const HAD: u32 = 8;
+// end
 
 const NAME: u32 = 0;
 const MEANING: u32 = 1;
@@ -406,20 +408,37 @@ pub fn check<'a>(
 #[non_exhaustive]
 #[repr(u32)]
 pub enum Text {
-    /// The map of the link, as [`map`].
+    // made by man/make_constants.py from crates/ps_c_texts/src/kinds.rt: the texts
+    /// The map of the link: what it puts where.
+    ///
+    /// The command `map` prints it.
     Map = 0,
-    /// That map, and what the link stores at each place.
+    /// That map, and then each place at which the link stores bytes.
+    ///
+    /// The command `map --references` prints it.
     References = 1,
-    /// What the one file has, as [`show`].
+    /// What the first file has: its slots, and its link information.
+    ///
+    /// The command `show` prints it.
     Show = 2,
-    /// The report on the files, as [`check`]; its document has what it finds one by one.
+    /// The report on the files, for a person: where each segment comes from, whether they are
+    /// linked, what a fault means in these files and what to do about it, and what else is
+    /// found.
+    ///
+    /// The command `check` prints it.
     Check = 3,
-    /// What each file has, in a line for each segment.
+    /// What each file has.
+    ///
+    /// The command `list` prints it.
     List = 4,
-    /// That list, and what is wrong with the units of each file by themselves.
+    /// That list, and after each file what is wrong with its units by themselves.
+    ///
+    /// The command `check --unit` prints it.
     Units = 5,
-    /// What that report finds, one by one.
+    /// What the report finds, one by one: lines of it, each of which begins with `warning: `,
+    /// `note: ` or `harmless: `; nothing where it finds nothing.
     Findings = 6,
+    // end
 }
 
 /// In which form [`text`] has it.

@@ -1,5 +1,5 @@
 //! What the arguments of a command line ask the program to do.
-ghost use Rattle.std.specs.Prelude.{◌≡◌, ◌⊎◌, IfErr, IfOk, IfSome, None, Some, [], ◌∷◌, codes, false, map, option_map, string_bytes, true};
+ghost use Rattle.std.specs.Prelude.{◌≡◌, ◌⊎◌, IfErr, IfOk, IfSome, None, Some, [], ◌∷◌, codes, map, option_map, string_bytes};
 ghost use Rattle.clap.specs.Words.{FailsBy, first_of, found_of, kind_of, rows_of, subcommand_rows_of};
 ghost use Rattle.ps_arguments.specs.CommandLine.{AreAccepted, AskForText, faults_in, named_in, texts};
 ghost use Rattle.ps_arguments.specs.Requests.{Answers, EndsWithLine, IsAsked, IsApartFrom, IsHost, IsNamedCommand, IsNoHost, IsOther, IsOtherCommand, IsSame, IsTask, IsWrongCheck, IsWrongLink, IsWrongMap, IsWrongNamed, IsWrongUsage, NamesInputs, file_of as file_spec, host_of, out_among};

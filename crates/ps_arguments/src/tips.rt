@@ -1,5 +1,5 @@
 //! What was meant by arguments that clap refuses, where the program knows it.
-ghost use Rattle.std.specs.Prelude.{◌≡◌, IfOk, map, option_map, string_bytes};
+ghost use Rattle.std.specs.Prelude.{◌≡◌, IfOk, map, string_bytes};
 ghost use Rattle.std.specs.Str.{str_eq_ignore_ascii_case};
 ghost use Rattle.ps_arguments.specs.CommandLine.{texts};
 ghost use Rattle.ps_arguments.specs.Tips.{IsMeantBy, IsTip, command_in_letters, command_without_file, link_words, no_file_words, of_link_words, option_text, out_option as out_option_spec, out_option_among, similar_words, tip_text, version_words, word_asked, word_in as word_in_spec};

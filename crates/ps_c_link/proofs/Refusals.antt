@@ -6,7 +6,7 @@ use Rattle.ps_words.specs.FaultText.{number_of, kind_of, reason_of}
 use Rattle.ps_words.specs.declared.fault.Reason.{Reason}
 use Rattle.ps_words.specs.declared.fault.Reason.TheVariants as reason
 use Rattle.ps_words.specs.declared.fault.Fault.{Fault}
-use Rattle.ps_c_link.specs.Answers.{IsTellable, fault_like, fault_told, fault_with, part, part_like, refusal, slot_part}
+use Rattle.ps_c_link.specs.Answers.{IsTellable, fault_told, fault_with, part, refusal, slot_part}
 use Rattle.ps_c_link.specs.declared.answer.TheConstants.{MAX_BYTE, MAX_KIND, NO_INDEX, NO_NUMBER}
 
 -- a number that is no higher is kept
@@ -59,35 +59,3 @@ told_back f name tellable =
     ∙ (ap (λ (o : Option ℕ). Some (with_parts f.slot o
     (part NO_INDEX (unwrap_or f.reference NO_INDEX)))) rec
     ∙ ap (λ (o : Option ℕ). Some (with_parts f.slot f.rec o)) reference)))
-
--- a reason is found by its number and the word of its kind
-reason_found : (why : Reason)
-    → reason_of (number_of why) (unwrap_or (kind_of why) NO_NUMBER) ≡ Some why
-reason_found reason.ShortFile = refl
-reason_found other = refl
-
--- a part is had where it is known whether it is there
-part_found : (o : Option ℕ) (none : ℕ) → part_like o (unwrap_or o none) ≡ o
-part_found None none = refl
-part_found (Some n) none = refl
-
-pub parts_back : (f : Fault) (name : Option (List ℕ)) → fault_like f (refusal f name) ≡ Some f
-parts_back f name =
-    let with_parts : Option ℕ → Option ℕ → Option ℕ → Reason → Fault =
-    λ slot rec reference why. record {
-      reason = why;
-      file = f.file;
-      slot = slot;
-      rec = rec;
-      reference = reference;
-    } in
-    let slot = part_like f.slot (unwrap_or f.slot NO_NUMBER) in
-    let rec = part_like f.rec (unwrap_or f.rec NO_INDEX) in
-    let reference = part_like f.reference (unwrap_or f.reference NO_INDEX) in
-    ap (option_map (with_parts slot rec reference)) (reason_found f.reason)
-    ∙ (ap (λ (o : Option ℕ). Some (with_parts o rec reference f.reason))
-    (part_found f.slot NO_NUMBER)
-    ∙ (ap (λ (o : Option ℕ). Some (with_parts f.slot o reference f.reason))
-    (part_found f.rec NO_INDEX)
-    ∙ ap (λ (o : Option ℕ). Some (with_parts f.slot f.rec o f.reason))
-    (part_found f.reference NO_INDEX)))

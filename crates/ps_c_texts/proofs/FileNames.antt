@@ -88,6 +88,3 @@ module _ (names rest lengths : List ℕ) (i : ℕ)
       → All IsUtf8 (split names lengths) → ⊥
   wrong_name lt wrong t = wrong_left rest (drop i lengths) (get_or lengths i 0)
       (drop (i + 1) lengths) (drop_more lengths i 0 lt) wrong (all.1 t)
-
-  pub right_names : length lengths ≤ i → All IsUtf8 (split names lengths)
-  right_names end = all.0 (none_left rest lengths i end)

@@ -1,5 +1,6 @@
 //! The texts that there are, by their numbers. The comments on the numbers are those of
-//! `include/pslink.h` and of pslink(3) too, which `man/make_constants.py` and `man/make_pages.py` write.
+//! `include/pslink.h`, docs/EMBEDDING.md, pslink(3) and the Rust crate too, which
+//! `man/make_constants.py` and `man/make_pages.py` write.
 ghost use Rattle.std.specs.Prelude.{◌≡◌};
 ghost use Rattle.ps_c_texts.specs.Kinds.{kind_in as kind_in_spec, list_in as list_in_spec, report_text as report_text_spec, text_kind as text_kind_spec, units_in as units_in_spec};
 
@@ -15,7 +16,7 @@ pub const TEXT_MAP: u32 = 0;
 /// The command `map --references` prints it.
 pub const TEXT_REFERENCES: u32 = 1;
 
-/// What files[0] has: its slots, and its link information.
+/// What the first file has: its slots, and its link information.
 ///
 /// The command `show` prints it.
 pub const TEXT_SHOW: u32 = 2;
@@ -40,14 +41,14 @@ pub const TEXT_UNITS: u32 = 5;
 /// `harmless: `; nothing where it finds nothing.
 pub const TEXT_FINDINGS: u32 = 6;
 
-/// The units that the slots of the host want, by slot, and then those that a record requests, of the
-/// host or of a unit that was found, and no slot of the host has, in the order of their requests, ten of
-/// these at most. They are told as far as a link reads: a segment that cannot be read requests none, and
-/// no unit is looked for after one that is missing. Each name is there once, whether the libraries have
-/// the unit or not.
+/// The units that a link takes from libraries, or would take if a library had them, each once. First come
+/// those that the slots of the host want, by slot. Then come those that a record requests, of the host or
+/// of a unit that was found, and no slot of the host has: in the order of their requests, ten of these at
+/// most. They are told as far as a link reads: a segment that cannot be read requests none, and no unit is
+/// looked for after one that is missing.
 pub const TEXT_WANTED: u32 = 7;
 
-/// The units whose code files[0] has, by slot.
+/// The units whose code the first file has, by slot.
 pub const TEXT_HAD: u32 = 8;
 
 /// What is added to the number of a text whose form is a JSON document.

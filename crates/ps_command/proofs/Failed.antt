@@ -8,7 +8,7 @@ use Rattle.ps_arguments.specs.declared.usage.UsageError.TheVariants as usage
 use Rattle.ps_output_files.specs.World.{World}
 use Rattle.ps_output_files.specs.declared.unlinked.Unlinked.{Unlinked}
 use Rattle.ps_output_files.specs.declared.unlinked.Unlinked.TheVariants as unlinked
-use Rattle.ps_command.specs.Causes.{read_error, told_of, told_of_file, told_of_usage, told_with_cause}
+use Rattle.ps_command.specs.Causes.{read_error, told_of, told_of_file, told_of_usage}
 use Rattle.ps_command.specs.Failures.{IsUnreadable}
 use Rattle.ps_command.specs.ReadFaults.{IsReadFault}
 use Rattle.ps_command.specs.Statuses.{status_of}

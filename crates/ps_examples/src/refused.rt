@@ -1,5 +1,5 @@
 ghost use Rattle.std.specs.Prelude.{[], ◌∷◌, ◌++◌, take, Some, None};
-ghost use Rattle.ps_examples.specs.Files.{host, library, host_in, library_in, host_with, library_with, library_of_used, put_at, with_slot, filled_host, demo, util, aux, tools, count, cuont, state, nobody, unit_ref, publ_ref, priv_ref, publ_def, const_def, eof_mark, util_information};
+ghost use Rattle.ps_examples.specs.Files.{host, library, library_in, host_with, library_with, library_of_used, put_at, with_slot, filled_host, demo, util, aux, tools, count, cuont, state, nobody, unit_ref, publ_ref, priv_ref, publ_def, const_def, eof_mark, util_information};
 ghost use Rattle.ps_examples.specs.Refused.{IsRefusedWith};
 ghost use Rattle.ps_words.specs.FaultPlaces.{in_file, in_slot, in_record, in_reference};
 ghost use Rattle.ps_words.specs.declared.fault.Reason.TheVariants as reason;

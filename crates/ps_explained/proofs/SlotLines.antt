@@ -69,10 +69,6 @@ pub adds_then_none : (a b c : List ℕ) (ls : List (List ℕ)) → AddsSlotLines
 adds_then_none a b c ls h k = subst (λ (t : List (List ℕ)). AddsSlotLines a t c) (append-nil ls)
     (adds_then a b c ls [] h k)
 
--- the end of a line alone
-pub adds_end : (old new : List ℕ) → new ≡ old ++ 10 ∷ [] → AddsSlotLines old [] new
-adds_end old new is = adds_no_line old [] new refl refl is
-
 -- a whole text
 pub lines_in : (text : List ℕ) (ls : List (List ℕ)) → AddsSlotLines [] ls text
     → slot_lines text ≡ ls

@@ -1,10 +1,8 @@
--- What holds of each row of a table of sentences, and which row an index has.
-use Rattle.std.proofs.Common.{◌≡◌, ◌≤◌, ◌<◌, ℕ, Bool, Bor, List, [], ◌∷◌, Option, Some, None, ap, arith, get_or, length, map, refl, subst, suc, sym, true, zero}
+-- What holds of each row of a table of sentences.
+use Rattle.std.proofs.Common.{◌≡◌, ◌≤◌, ◌<◌, ℕ, Bool, List, [], ◌∷◌, ap, arith, get_or, length, map, refl, subst, suc, sym, true, zero}
 use Rattle.std.specs.Prelude.{nat_le}
 use Rattle.std.specs.List.{list_all}
-use Rattle.std.specs.Slice.{IsItemAt}
 use Rattle.std.proofs.lemmas.Bool.Decides.{nat_tests}
-use Rattle.std.proofs.lemmas.Option.{MatchOption-at_none, MatchOption-at_some}
 use Rattle.ps_explained.specs.Sentences.{is_printed, meaning_of, remedy_of}
 use Rattle.ps_explained.proofs.OneLine.{and_left, and_right}
 use Rattle.ps_explained.specs.declared.sentences.TheConstants.{MEANINGS, REMEDIES, SENTENCE_LEN}
@@ -60,16 +58,3 @@ no_row : {X : Type 0} (f : X → List ℕ) (xs : List X) (i : ℕ) → length xs
 no_row f [] i le = refl
 no_row f (x ∷ xs) zero le = absurd (omega (arith, le))
 no_row f (x ∷ xs) (suc i) le = no_row f xs i (omega (arith, le))
-
--- what an index finds, seen through f, is the item of the mapped list
-pub some_item : {X : Type 0} (f : X → List ℕ) (xs : List X) (i : ℕ) (r : Option (Bor X))
-    (x : Bor X) → r ≡ Some x → IsItemAt xs i r → f x.now ≡ get_or (map f xs) i []
-some_item {X} f xs i r x is item =
-    let at = MatchOption-at_some (length xs ≤ i) (λ (y : Bor X). (i < length xs)
-    × ((d : X) → y.now ≡ get_or xs i d)) x is item.3 in
-    some_row f xs i x.now at.0 at.1
-
-pub no_item : {X : Type 0} (f : X → List ℕ) (xs : List X) (i : ℕ) (r : Option (Bor X))
-    → r ≡ None → IsItemAt xs i r → [] ≡ get_or (map f xs) i []
-no_item {X} f xs i r is item = no_row f xs i (MatchOption-at_none (length xs ≤ i)
-    (λ (y : Bor X). (i < length xs) × ((d : X) → y.now ≡ get_or xs i d)) is item.3)

@@ -166,16 +166,6 @@ module _ (order : Order) (code : List ℕ) (words : IsOfWords order code) where
       ∙ second_of_pair (words.half - 1) (length code - 2) code (omega (arith, even))
       (omega (arith, long)))
 
-  byte_before : 2 ≤ length code → slice_index (exchanged code) (length (exchanged code) - 2)
-      ≡ slice_index code (length code - 1)
-  byte_before long =
-      let even = words.even in
-      ap (λ (n : ℕ). slice_index (exchanged code) (n - 2)) (same_length code)
-      ∙ (first_of_pair (words.half - 1) (length code - 2) code (omega (arith, even))
-      (omega (arith, long))
-      ∙ ap (λ (n : ℕ). slice_index code n)
-      (let same : (length code - 2) + 1 ≡ length code - 1 = omega (arith, long) in same))
-
   to_right : IsExchangedCode order code → IsRightOnceExchanged order code
   to_right h = (
     h.numbers,

@@ -5,7 +5,7 @@ use Rattle.ps_resolve.specs.Faults.{definitions_fault, data_fault}
 use Rattle.ps_laws.proofs.Least.{Least, Precedes, least_if, least_then, least_items, at_apart}
 use Rattle.ps_words.specs.declared.fault.Reason.TheVariants as reason
 use Rattle.ps_laws.proofs.PrivateOffsets.{all_are}
-pub use Rattle.ps_resolve.proofs.LookingBack.{is_again, again, take_prefix, longer}
+pub use Rattle.ps_resolve.proofs.LookingBack.{again, take_prefix, longer}
 use Rattle.ps_resolve.specs.declared.edits.data_size.TheConstants.{MAX_DATA_SIZE}
 use Rattle.ps_resolve.specs.Standing.DataSizes.{InDataSize}
 use Rattle.ps_resolve.specs.Standing.Segments.{OfHostSegment}

@@ -2,7 +2,6 @@ pub mod LinkedFile
 pub mod Writing
 pub mod Outcomes
 pub mod Refusals
-pub mod MapJson
 pub mod ShowJson
 pub mod MapText
 pub mod ShowText

@@ -17,7 +17,6 @@ use Rattle.ps_resolve.specs.Sources.{Segment, order_of}
 use Rattle.ps_resolve.specs.LinkedBytes.{segments_of}
 use Rattle.ps_linkfile.specs.LinkedFile.{block_of, linked_segments}
 use Rattle.ps_writing.specs.JsonText.{separator}
-pub use Rattle.ps_writing.specs.Lines.{hex_byte}
 use Rattle.ps_writing.specs.Rows.{Value, Stored, Named, Number, Bytes, by_form, values_in}
 use Rattle.ps_writing.specs.declared.rows.Form.{Form}
 use Rattle.ps_writing.specs.declared.rows.Form.TheVariants.{Lines}

@@ -1,5 +1,5 @@
 -- The units of a file by themselves: a line of each, made for grep, and an item of a JSON document.
-use Rattle.std.specs.Prelude.{ℕ, ◌||◌, if◌then◌else◌, List, [], ◌∷◌, ◌++◌, codes, Bool, true, false, Option, Some, None, Result, Ok, Err, is_some, length, ◌==◌}
+use Rattle.std.specs.Prelude.{ℕ, ◌||◌, if◌then◌else◌, List, [], ◌∷◌, ◌++◌, codes, Bool, Option, Some, None, Result, Ok, Err, is_some, length, ◌==◌}
 use Rattle.std.specs.List.{enumerate_from, filter_map, flat_map, list_any}
 use Rattle.ps_words.specs.FaultText.{part_text}
 use Rattle.ps_words.specs.declared.fault.Reason.{Reason}

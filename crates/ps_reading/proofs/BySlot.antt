@@ -1,5 +1,5 @@
 -- The one table of segments: the host's own by slot, into which the added ones are put.
-use Rattle.ps_reading.proofs.Vocabulary.{◌≡◌, ◌≢◌, ℕ, zero, suc, ◌+◌, ◌<◌, ◌≤◌, List, [], ◌∷◌, ◌++◌, length, take, drop, get_or, Bool, true, false, if◌then◌else◌, Option, Some, None, Result, Ok, refl, sym, ◌∙◌, ap, subst, arith, All, is_none, nat_lt, filter, filter_map, find, insert, range_with_len, option_map_or, option_or, result_ok, All-nil, All-cons, All-head, All-tail, All-append, All-weaker, filter_passes, find-append, take-append-drop, drop_all, Order, Reason, is_empty, Role, Segment, is_role, source_fault, AscendFrom, UnitReference, FIRST_ADDED, MAX_ADDED, SLOT_COUNT, SLOTS}
+use Rattle.ps_reading.proofs.Vocabulary.{◌≡◌, ◌≢◌, ℕ, zero, suc, ◌+◌, ◌<◌, ◌≤◌, List, [], ◌∷◌, ◌++◌, length, take, drop, get_or, get_or_default, Bool, true, false, if◌then◌else◌, Option, Some, None, Result, Ok, refl, sym, ◌∙◌, ap, subst, arith, All, is_none, nat_lt, filter, filter_map, find, insert, range_with_len, option_map_or, option_or, result_ok, All-nil, All-cons, All-head, All-tail, All-append, All-weaker, filter_passes, find-append, take-append-drop, drop_all, Order, Reason, is_empty, Role, Segment, is_role, source_fault, AscendFrom, UnitReference, FIRST_ADDED, MAX_ADDED, SLOT_COUNT, SLOTS}
 use Rattle.ps_codefile.specs.declared.entry.Role.TheVariants as role
 use Rattle.ps_reading.specs.Added.{added_segment, empty_slots}
 use Rattle.ps_reading.specs.Readings.{read_segment, read_segments}
@@ -92,12 +92,12 @@ fewer_kept : (f : ℕ → Option Segment) (j : ℕ) → f j ≡ None → (n a : 
 fewer_kept f j none zero a le lt = absurd (omega arith)
 fewer_kept f j none (suc n) a le lt = grind (arith, few_from, fewer_kept f j none n (a + 1))
 
--- a segment that is added in the slot at i of those that are left
+-- a segment that is added in the slot at i of those that are left has its place in the table
 pub record IsNewIn (order : Order) (host : List ℕ) (slots : List ℕ) (i : ℕ)
-    (added : List Segment) (s : Segment) : Type 0 where
-  pub low : s.slot < SLOTS
-  pub empty : is_role is_empty order host s.slot ≡ true
-  pub none : find (is_in_slot s.slot) added ≡ None
+    (old added : List Segment) (s : Segment) : Type 0 where
+  pub room : length (segments_in_slots order host old added) < SLOT_COUNT
+  pub put : put_by_slot s (segments_in_slots order host old added)
+      ≡ segments_in_slots order host old (added ++ s ∷ [])
   pub below : All (λ x. x.slot < s.slot + 1) (added ++ s ∷ [])
   pub ascend : AscendFrom (s.slot + 1) (drop (i + 1) slots)
 
@@ -208,44 +208,37 @@ module _ (order : Order) (host : List ℕ) (libs : List (List ℕ)) where
   unfolding empty_slots
   empty_are = filter_passes (is_role is_empty order host) (range_with_len FIRST_ADDED MAX_ADDED)
 
-  pub new_in : (slots : List ℕ) (i slot from : ℕ) (added : List Segment) (s : Segment)
-      (g : UnitReference) → slots ≡ empty_slots order host → All (λ j. j < SLOTS) slots
-      → i < length slots → slot ≡ get_or slots i slot
-      → AscendFrom from (drop i slots) → All (λ (x : Segment). x.slot < from) added
-      → added_segment order host libs g slot ≡ Some s → IsNewIn order host slots i added s
-  new_in slots i slot from added s g are low lt at ascend below brought =
-      let made = added_made order host libs g slot s brought in
-      let is : s.slot ≡ slot = grind arith in
-      let left : AscendFrom from (slot ∷ drop (i + 1) slots) = grind (arith, drop_at) in
-      let first : from ≤ slot = left.0 in
-      let small : slot < SLOTS = grind arith in
-      let has : is_role is_empty order host slot ≡ true = grind (arith, empty_are)
-      in
-      let next : AscendFrom (slot + 1) (drop (i + 1) slots) = left.1 in
-      record {
-        low = omega (arith, is, small);
-        empty = rw is has;
-        none = grind (arith, none_below);
-        below = All-append (λ (x : Segment). x.slot < s.slot + 1) added (s ∷ [])
-            (All-weaker (λ (x : Segment). x.slot < from) (λ (x : Segment). x.slot < s.slot + 1)
-            (λ x h. omega (arith, h, is, first)) added below)
-            (All-cons (λ (x : Segment). x.slot < s.slot + 1) s [] (omega arith)
-            (All-nil (λ (x : Segment). x.slot < s.slot + 1)));
-        ascend = grind arith;
-      }
-
   -- with the own segments as they were read
   module _ (old : List Segment) (are : old ≡ own) where
     pub own_table : old ≡ segments_in_slots order host old []
     own_table = grind (arith, own_by_slot)
 
-    pub put_table : (xs : List Segment) (s : Segment) → s.slot < SLOTS
-        → is_role is_empty order host s.slot ≡ true → find (is_in_slot s.slot) xs ≡ None
-        → put_by_slot s (segments_in_slots order host old xs)
-        ≡ segments_in_slots order host old (xs ++ s ∷ [])
-    put_table xs s low is none = grind (arith, put_one)
-
-    pub room_in_table : (xs : List Segment) (s : Segment) → s.slot < SLOTS
-        → is_role is_empty order host s.slot ≡ true → find (is_in_slot s.slot) xs ≡ None
-        → length (segments_in_slots order host old xs) < SLOT_COUNT
-    room_in_table xs s low is none = grind (arith, is_room)
+    pub new_in : (slots : List ℕ) (i from : ℕ) (added : List Segment) (s : Segment)
+        (g : UnitReference) → slots ≡ empty_slots order host → All (λ j. j < SLOTS) slots
+        → i < length slots → AscendFrom from (drop i slots)
+        → All (λ (x : Segment). x.slot < from) added
+        → added_segment order host libs g (get_or slots i 0) ≡ Some s
+        → IsNewIn order host slots i old added s
+    new_in slots i from added s g all low lt ascend below brought =
+        let slot = get_or slots i 0 in
+        let at : slot ≡ get_or slots i slot = get_or_default slots i 0 slot lt in
+        let made = added_made order host libs g slot s brought in
+        let is : s.slot ≡ slot = grind arith in
+        let left : AscendFrom from (slot ∷ drop (i + 1) slots) = grind (arith, drop_at) in
+        let first : from ≤ slot = left.0 in
+        let small : slot < SLOTS = grind arith in
+        let has : is_role is_empty order host slot ≡ true = grind (arith, empty_are) in
+        let next : AscendFrom (slot + 1) (drop (i + 1) slots) = left.1 in
+        let in_range : s.slot < SLOTS = omega (arith, is, small) in
+        let empty : is_role is_empty order host s.slot ≡ true = rw is has in
+        let none : find (is_in_slot s.slot) added ≡ None = grind (arith, none_below) in
+        record {
+          room = grind (arith, is_room);
+          put = grind (arith, put_one);
+          below = All-append (λ (x : Segment). x.slot < s.slot + 1) added (s ∷ [])
+              (All-weaker (λ (x : Segment). x.slot < from) (λ (x : Segment). x.slot < s.slot + 1)
+              (λ x h. omega (arith, h, is, first)) added below)
+              (All-cons (λ (x : Segment). x.slot < s.slot + 1) s [] (omega arith)
+              (All-nil (λ (x : Segment). x.slot < s.slot + 1)));
+          ascend = grind arith;
+        }

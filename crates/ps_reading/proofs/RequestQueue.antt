@@ -1,7 +1,8 @@
 -- The queue of names that are requested, of which only the first ten are kept, and the rounds that
 -- it gives.
-use Rattle.ps_reading.proofs.Vocabulary.{◌≡◌, ℕ, ◌+◌, ◌<◌, ◌≤◌, List, [], ◌∷◌, ◌++◌, ◌-◌, length, length-append, append_assoc, append-nil, take, drop, Bool, true, false, Option, Some, None, inl, inr, refl, sym, ◌∙◌, ap, arith, ◌⊎◌, All, if◌then◌else◌, cases_lt, take-append-le, take_all, length-take, length-take-le, All-nil, All-cons, All-append, slice_get, filter, range_with_len, Order, is_unit_reference, units_requested, is_already_known, unit_references, all_unit_references, requested_from, unplaced_fault, placed_fault, added_segment, RoundsOutcome, after, rounds_from, AscendFrom, segments_in_slots, IsRead, Fault, Body, Record, Segment, UnitReference, MAX_REQUESTED}
+use Rattle.ps_reading.proofs.Vocabulary.{◌≡◌, ℕ, ◌+◌, ◌<◌, ◌≤◌, List, [], ◌∷◌, ◌++◌, ◌-◌, length, length-append, append_assoc, append-nil, take, drop, get_or, get_or_default, Bool, true, false, Option, Some, None, inl, inr, refl, sym, ◌∙◌, ap, arith, ◌⊎◌, All, if◌then◌else◌, cases_lt, take-append-le, take_all, drop_all, length-take, length-take-le, All-nil, All-cons, All-append, slice_get, filter, range_with_len, Order, is_unit_reference, units_requested, is_already_known, unit_references, all_unit_references, requested_from, unplaced_fault, placed_fault, added_segment, RoundsOutcome, after, rounds_from, AscendFrom, segments_in_slots, IsRead, Fault, Body, Record, Segment, UnitReference, MAX_REQUESTED}
 use Rattle.ps_linkinfo.specs.declared.record.Body.TheVariants.{UnitRef}
+use Rattle.ps_reading.proofs.NextItems.{drop_at}
 use Rattle.ps_reading.proofs.RecordCounts.{one_unit}
 
 -- with this queue, the names that the records from this index on request make the whole queue:
@@ -173,20 +174,64 @@ pub record AreAdded (order : Order) (host : List ℕ) (libs : List (List ℕ))
       × (rounds_from order host libs units slots 0 whole
       ≡ joined added (rounds_from order host libs units (drop round slots) round all))
 
+-- the slots that are left have that of this round first
+pub next_slot : (slots : List ℕ) (i : ℕ) → i < length slots
+    → drop i slots ≡ get_or slots i 0 ∷ drop (i + 1) slots
+next_slot slots i lt = drop_at slots i (get_or slots i 0) lt (get_or_default slots i 0 _ lt)
+
+-- the k-th name, as the queue that is kept has it
+pub at_round : (queue items : List UnitReference) (i n : ℕ) (o : Option UnitReference)
+    → items ≡ take MAX_REQUESTED queue → i < MAX_REQUESTED → n ≡ i
+    → o ≡ slice_get items n → slice_get queue i ≡ o
+at_round queue items i n o is lt same h = grind arith
+
+-- by this queue no segment is added in the rounds that are left
+abbrev pub End : Order → List ℕ → List (List ℕ) → List (List ℕ × ℕ) → List ℕ
+    → List UnitReference → ℕ → Option Fault → Type 0
+End order host libs units slots queue round fault =
+    (all : List UnitReference) → queue ≡ take MAX_REQUESTED all
+    → rounds_from order host libs units (drop round slots) round all
+    ≡ record { added = []; fault = fault }
+
+-- no name is left, or no slot, or the unit of the next name is refused
+module _ {order : Order} {host : List ℕ} {libs : List (List ℕ)} {units : List (List ℕ × ℕ)}
+    {slots : List ℕ} {first queue : List UnitReference} {old table : List Segment} {round : ℕ}
+    (so_far : AreAdded order host libs units slots first queue old table round) (n : ℕ)
+    (few : round < MAX_REQUESTED) (same : n ≡ round) where
+  pub end_of_names : None ≡ slice_get queue n → End order host libs units slots queue round None
+  end_of_names h all is = no_name_left order host libs units round all (drop round slots)
+      (at_round all queue round n None is few same h)
+
+  pub end_of_slots : (g : UnitReference) → Some g ≡ slice_get queue n → length slots ≤ round
+      → End order host libs units slots queue round (Some (unplaced_fault order libs g))
+  end_of_slots g h over all is =
+      ap (λ (l : List ℕ). rounds_from order host libs units l round all)
+      (drop_all round slots over) ∙ no_slot_left order host libs units round all g
+      (at_round all queue round n (Some g) is few same h)
+
+  pub end_by_fault : (g : UnitReference) (f : Fault) → Some g ≡ slice_get queue n
+      → round < length slots → placed_fault order host libs g (get_or slots round 0) ≡ Some f
+      → End order host libs units slots queue round (Some f)
+  end_by_fault g f h lt e all is =
+      ap (λ (l : List ℕ). rounds_from order host libs units l round all)
+      (next_slot slots round lt) ∙ round_refused order host libs units round all
+      (get_or slots round 0) (drop (round + 1) slots) g f
+      (at_round all queue round n (Some g) is few same h) e
+
 -- where no segment is added in the rounds that are left, those before are all
 module _ {order : Order} {host : List ℕ} {libs : List (List ℕ)} {units : List (List ℕ × ℕ)}
     {slots : List ℕ} {first queue : List UnitReference} {old table : List Segment} {round : ℕ}
     (so_far : AreAdded order host libs units slots first queue old table round)
     (fault : Option Fault) (read : All (IsRead order host libs) table)
-    (end : (whole : List UnitReference) (kept : first ≡ take MAX_REQUESTED whole)
-    → rounds_from order host libs units (drop round slots) round (so_far.rounds whole kept).0
-    ≡ record { added = []; fault = fault }) where
+    (end : End order host libs units slots queue round fault) where
   abbrev all : List UnitReference → RoundsOutcome
   all whole = rounds_from order host libs units slots 0 whole
 
   is : (whole : List UnitReference) (kept : first ≡ take MAX_REQUESTED whole)
       → all whole ≡ joined so_far.added (record { added = []; fault = fault })
-  is whole kept = (so_far.rounds whole kept).3 ∙ ap (joined so_far.added) (end whole kept)
+  is whole kept =
+      let r = so_far.rounds whole kept in
+      r.3 ∙ ap (joined so_far.added) (end r.0 r.2)
 
   added_is : (whole : List UnitReference) (kept : first ≡ take MAX_REQUESTED whole)
       → so_far.added ≡ (all whole).added
@@ -218,12 +263,6 @@ module _ {order : Order} {host : List ℕ} {libs : List (List ℕ)} {units : Lis
         requested_from units whole (all_unit_references ys)) (added_is whole kept));
     read = read;
   }
-
--- the k-th name, as the queue that is kept has it
-pub at_round : (queue items : List UnitReference) (i n : ℕ) (o : Option UnitReference)
-    → items ≡ take MAX_REQUESTED queue → i < MAX_REQUESTED → n ≡ i
-    → o ≡ slice_get items n → slice_get queue i ≡ o
-at_round queue items i n o is lt same h = grind arith
 
 -- what is kept of a queue has ten names at most
 pub few_kept : (queue : List UnitReference) → length (take MAX_REQUESTED queue) ≤ MAX_REQUESTED

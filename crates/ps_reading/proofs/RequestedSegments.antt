@@ -1,10 +1,11 @@
 -- The unit of a request: its fault and its segment by the library that has it, and the request of a
 -- slot that wants a unit.
-use Rattle.ps_reading.proofs.Vocabulary.{arith, ◌≡◌, ℕ, List, Bool, false, ◌&&◌, not, Option, Some, None, Result, Ok, refl, sym, ◌∙◌, ap, if◌then◌else◌, find, option_and_then, option_map, result_ok, in_slot, Order, Reason, slots, entry_at, is_nameless, role_of, role_of_kind, Role, Segment, chosen_library, file_at, is_named, library_file, own_segment, segment_from, source_of, unit_source, code_fault, entries_reason, request_fault, source_fault, as_requested, is_missing, request_by_slot, requested_segment, IsRead, Request}
+use Rattle.ps_reading.proofs.Vocabulary.{arith, ◌≡◌, ℕ, List, Bool, true, false, ◌&&◌, not, Option, Some, None, Result, Ok, refl, sym, ◌∙◌, ap, if◌then◌else◌, find, option_and_then, option_map, result_ok, in_slot, OpenedFile, Order, Reason, slots, entry_at, kind_needs_linking, is_nameless, role_of, role_of_kind, Role, Segment, chosen_library, file_at, is_named, library_file, own_segment, segment_from, source_of, unit_source, code_fault, entries_reason, request_fault, source_fault, as_requested, is_missing, request_by_slot, requested_segment, IsRead, Request}
 use Rattle.ps_codefile.specs.declared.entry.Role.TheVariants as role
 use Rattle.ps_reading.specs.declared.reading.request.Requester.{Requester}
 use Rattle.ps_reading.specs.declared.reading.request.Requester.TheVariants.{Slot}
 use Rattle.ps_reading.proofs.FirstSlots.{some_mapped}
+use Rattle.ps_reading.proofs.ReadingUnits.{kind_is}
 use Rattle.ps_reading.proofs.ReadingLibraries.{chosen_file}
 
 -- the unit of a name is entry i of this file, which is the library that was chosen
@@ -40,23 +41,41 @@ module _ (order : Order) (host : List ℕ) (libs : List (List ℕ)) (r : Request
             found = rw there (m.1 ∙ ap (λ (p : ℕ × ℕ). Some p.1) (sym m.2));
           }
 
-  pub found_at : find (is_named order r.name (file_at host libs file)) slots ≡ Some i
-  found_at = unit_at.found
-
-  pub placed_refused : (why : Reason) → is_missing order libs r.name ≡ false
+  refused : (why : Reason) → is_missing order libs r.name ≡ false
       → entries_reason order r.name (file_at host libs file) ≡ Some why
       → request_fault order host libs r ≡ Some (in_slot file r.slot why)
-  placed_refused why m e = grind (arith, unit_at)
+  refused why m e = grind (arith, unit_at)
 
-  pub placed_by : is_missing order libs r.name ≡ false
+  taken : is_missing order libs r.name ≡ false
       → entries_reason order r.name (file_at host libs file) ≡ None
       → request_fault order host libs r
       ≡ code_fault order host libs r.slot role.Wanted (file, i)
-  placed_by m e = grind (arith, unit_at)
+  taken m e = grind (arith, unit_at)
 
-  pub brought_by : requested_segment order host libs r ≡ option_map (as_requested r.requester)
-      (segment_from order host libs r.slot r.name role.Wanted (file, i))
-  brought_by = rw source refl
+  -- by the dictionary of the library
+  module _ {d : OpenedFile}
+      (dict : d ≡ record { order = order; file = file_at host libs file }) where
+    pub found_at : find (is_named d.order r.name d.file) slots ≡ Some i
+    found_at = rw dict unit_at.found
+
+    pub needs_linking : entries_reason d.order r.name d.file ≡ None
+        → kind_needs_linking (entry_at d.order d.file i).kind ≡ true
+    needs_linking e = ap kind_needs_linking (kind_is d.order r.name d.file i e found_at)
+
+    pub placed_refused : (why : Reason) → is_missing order libs r.name ≡ false
+        → entries_reason d.order r.name d.file ≡ Some why
+        → request_fault order host libs r ≡ Some (in_slot file r.slot why)
+    placed_refused why m h = refused why m (rw dict at h)
+
+    pub placed_by : is_missing order libs r.name ≡ false
+        → entries_reason d.order r.name d.file ≡ None
+        → code_fault d.order host libs r.slot role.Wanted (file, i)
+        ≡ request_fault order host libs r
+    placed_by m h = rw dict (sym (taken m (rw dict at h)))
+
+    pub brought_by : requested_segment order host libs r ≡ option_map (as_requested r.requester)
+        (segment_from d.order host libs r.slot r.name role.Wanted (file, i))
+    brought_by = rw (dict, source) refl
 
 -- a segment is read, also where it is marked as it is requested
 pub read_marked : (order : Order) (host : List ℕ) (libs : List (List ℕ)) (by : Requester)

@@ -1,5 +1,5 @@
 -- The words and lemmas that several proofs use, each with its home.
-pub use Rattle.ps_codefile.specs.Dictionary.{is_filled, name_at, tail_of}
+pub use Rattle.ps_codefile.specs.Dictionary.{name_at, tail_of}
 pub use Rattle.ps_laws.proofs.AddedUnits.{has_own, map_at}
 pub use Rattle.ps_rebuild_laws.proofs.ChangedLists.{Both, all_mapped, and_left, any_mapped, both, clipped, drop_at, find_mapped, first_mapped, in_slots, known_moved, neither, none_alike, or_moved, same_clipped}
 pub use Rattle.ps_laws.proofs.Items.{In, all_items, at_left, find_in, find_passes, in_filter_map, of_all, of_filter_map}

@@ -1,6 +1,8 @@
 -- Privates are by slot and then by record, where the segments are by slot; and so one is found by
 -- binary search.
-use Rattle.ps_resolve.proofs.Vocabulary.{◌≡◌, ℕ, zero, suc, ◌+◌, ◌<◌, ◌==◌, ◌&&◌, ◌||◌, ◌++◌, List, [], ◌∷◌, length, map, get_or, Bool, true, false, Option, Some, None, inl, inr, refl, arith, find, nat_lt, cases_lt, cases_order, nat_tests, Record, AscendFrom, Owner, words_in, allotted_privates, private_words, all_allotted, is_from, RiseFrom, is_of, offset_listed, Private}
+use Rattle.ps_resolve.proofs.Vocabulary.{◌≡◌, ℕ, zero, suc, ◌+◌, ◌<◌, ◌==◌, ◌&&◌, ◌||◌, ◌++◌, List, [], ◌∷◌, length, map, get_or, Bool, true, false, Option, Some, None, inl, inr, refl, sym, arith, find, nat_lt, cases_lt, cases_order, nat_tests, Record, AscendFrom, Owner, words_in, allotted_privates, private_words, all_allotted, is_from, RiseFrom, is_of, offset_listed, Private}
+use Rattle.std.specs.Bool.{then_some}
+use Rattle.std.proofs.lemmas.List.{get_or_default}
 use Rattle.std.specs.List.Sorted.{IsPartitionedBy, IsPartitionPoint}
 
 weaker : (a b c d : ℕ) (ps : List Private)
@@ -103,12 +105,23 @@ module _ (slot rec a b : ℕ) (ps : List Private) (i : ℕ) (h : RiseFrom a b ps
 
 module _ (slot rec : ℕ) {xs : List Private} (ps : List Private) {i : ℕ} (same : xs ≡ ps)
     (h : RiseFrom 0 0 xs)
-    (p : IsPartitionPoint (λ x. is_before slot rec x ≡ true)
+    (p : IsPartitionedBy (is_before slot rec) xs
+    → IsPartitionPoint (λ x. is_before slot rec x ≡ true)
     (λ x. is_before slot rec x ≡ false) xs i) where
-  pub offset_found : (x : Private) → i < length xs → x ≡ get_or xs i x → x.slot ≡ slot
-      → x.rec ≡ rec → ◌≡◌ {A = Option ℕ} (Some x.offset) (offset_listed slot rec ps)
-  offset_found x lt is s r = grind (arith, found_there, nat_tests)
+  pub offset_seen : (x : Private) (b : Bool) → i < length xs → x ≡ get_or xs i x
+      → b ≡ is_of slot rec x → then_some b x.offset ≡ offset_listed slot rec ps
+  offset_seen x true lt is e =
+      grind (arith, found_there slot rec 0 0 xs i h (p (partitioned slot rec 0 0 xs h)))
+  offset_seen x false lt is e = grind (
+    arith,
+    found_nowhere slot rec 0 0 xs i h (p (partitioned slot rec 0 0 xs h))
+        (λ d k. rw (get_or_default xs i d x k, ← is) (sym e)),
+  )
 
-  pub offset_none : ((d : Private) → i < length xs → is_of slot rec (get_or xs i d) ≡ false)
+  pub offset_none : nat_lt i (length xs) ≡ false
       → ◌≡◌ {A = Option ℕ} None (offset_listed slot rec ps)
-  offset_none other = grind (arith, found_nowhere slot rec 0 0 xs i h p other)
+  offset_none past = grind (
+    arith,
+    found_nowhere slot rec 0 0 xs i h (p (partitioned slot rec 0 0 xs h))
+        (λ d k. grind (arith, nat_tests)),
+  )

@@ -8,7 +8,7 @@ pub use Rattle.ps_linkinfo.specs.Records.{reading, refs_of}
 pub use Rattle.ps_linkinfo.specs.declared.record.Body.{Body}
 pub use Rattle.ps_linkinfo.specs.declared.record.LinkRecord.{LinkRecord as Record}
 pub use Rattle.ps_reading.specs.Added.{segments, slot_names}
-pub use Rattle.ps_reading.specs.KnownSegments.{AscendFrom, HasOneHost, IsLike, IsSound}
+pub use Rattle.ps_reading.specs.KnownSegments.{AscendFrom, HasOneHost, IsLike}
 pub use Rattle.ps_reading.specs.OfLink.{AreOfLink}
 pub use Rattle.ps_reading.specs.Readings.{HostFiles, all_read, host_reading_fault, opened_host, reading_fault}
 pub use Rattle.ps_reading.specs.Searches.{fault_if, first_of}
@@ -41,7 +41,7 @@ pub use Rattle.ps_words.specs.declared.edit.Edit.TheVariants.{Byte}
 pub use Rattle.ps_words.specs.declared.fault.Fault.{Fault}
 pub use Rattle.ps_words.specs.declared.fault.Reason.{Reason}
 pub use Rattle.ps_words.specs.declared.order.Order.{Order}
-pub use Rattle.std.proofs.Common.{All, Bool, Decides, Err, IfErr, IfOk, IfSome, IsPermutation, List, None, Ok, Option, Result, Some, [], ap, append-nil, append_assoc, arith, bytes_eq, count_by, drop, eqb-true, false, get_or, if◌then◌else◌, inl, inr, is_some, length, length-append, length-set, ltb, ltb-false, map, nat_cmp, nat_eq, nat_le, nat_lt, ne_eqb, option_map, option_to_list, refl, rules, set, subst, suc, sym, take, true, zero, ℕ, ◌&&◌, ◌++◌, ◌+◌, ◌-◌, ◌<◌, ◌==◌, ◌||◌, ◌∙◌, ◌∷◌, ◌≡◌, ◌≤◌, ◌⊎◌}
+pub use Rattle.std.proofs.Common.{All, Bool, Decides, Err, IfErr, IfOk, IfSome, IsPermutation, List, None, Ok, Option, Result, Some, [], ap, append-nil, append_assoc, arith, bytes_eq, count_by, drop, eqb-true, false, get_or, if◌then◌else◌, inl, inr, is_some, length, length-append, length-set, ltb, ltb-false, map, nat_cmp, nat_eq, nat_le, nat_lt, option_map, option_to_list, refl, rules, set, subst, suc, sym, take, true, zero, ℕ, ◌&&◌, ◌++◌, ◌+◌, ◌-◌, ◌<◌, ◌==◌, ◌||◌, ◌∙◌, ◌∷◌, ◌≡◌, ◌≤◌, ◌⊎◌}
 pub use Rattle.std.proofs.lemmas.Bool.{cases_Bool, cases_lt, cases_order, false≢true, not-false, not-true}
 pub use Rattle.std.proofs.lemmas.Bool.Decides.{Decides-and, Decides-like, Decides-or, nat_tests}
 pub use Rattle.std.proofs.lemmas.List.{drop_all, drop_more, get_or-set_other, get_or-set_same, get_or_past, length-map, length-take-le, map-append, nil_from_length, take_all, take_at, take_more}

@@ -1,5 +1,5 @@
 -- What is known of the segments of a link, once the files were read without a fault.
-pub use Rattle.ps_reading.specs.KnownSegments.{AreSlots, AscendFrom, HasOneHost}
+pub use Rattle.ps_reading.specs.KnownSegments.{AscendFrom, HasOneHost}
 use Rattle.std.specs.Prelude.{◌≡◌, ℕ, ◌+◌, ◌≤◌, List, length, map, true, Some, All, is_some}
 use Rattle.ps_words.specs.declared.order.Order.{Order}
 use Rattle.ps_words.specs.declared.edit.Edit.{Edit}

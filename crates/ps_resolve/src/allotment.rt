@@ -257,10 +257,8 @@ impl<A: Allocator + Copy> Allotment<A> {
     {
         let privates = self.privates.as_slice();
         let first = privates.partition_point(|p| p.slot < slot || p.slot == slot && p.rec < rec);
-        match privates.get(first) {
-            Some(private) if private.slot == slot && private.rec == rec => { Some(private.offset) }
-            _ => None,
-        }
+        let private = privates.get(first)?;
+        (private.slot == slot && private.rec == rec).then_some(private.offset)
     }
 
     /// All privates, by slot and then by record.

@@ -8,7 +8,7 @@ use Rattle.ps_codefile.specs.declared.entry.Role.{Role}
 use Rattle.ps_codefile.specs.declared.entry.Role.TheVariants as role
 use Rattle.ps_resolve.specs.Readings.{HostFiles, read_requests}
 use Rattle.ps_resolve.specs.Sources.{opened_files}
-use Rattle.ps_texts.specs.UnitNames.{AreTaken, IsNamed, IsOfHost, IsRequested, IsTaken, IsWanted, has_name, has_slot_of, is_slot_of, slots_wanted, sought_name, units_wanted, wanted_as, wanted_name, with_each, with_name}
+use Rattle.ps_texts.specs.UnitNames.{AreTaken, IsNamed, IsOfHost, IsTaken, IsWanted, has_name, has_slot_of, is_slot_of, slots_wanted, sought_name, units_wanted, wanted_as, wanted_name, with_each, with_name}
 
 -- no name is there twice
 abbrev Once : List (List ℕ) → Type 0

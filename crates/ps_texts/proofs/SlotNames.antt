@@ -1,7 +1,7 @@
 -- Names that are added one by one.
 use Rattle.std.proofs.Common.{◌≡◌, ℕ, suc, ◌+◌, ◌-◌, ◌<◌, ◌≤◌, List, [], ◌∷◌, ◌++◌, drop, get_or, length, length-append, append_assoc, append-nil, Bool, true, false, true≢false, Option, Some, None, Result, Ok, Err, is_some, refl, sym, ◌∙◌, ap, arith, if◌then◌else◌}
 use Rattle.std.specs.Prelude.{IfErr, option_to_list}
-use Rattle.std.proofs.lemmas.List.{at_drop_all, at_drop_more}
+use Rattle.std.proofs.lemmas.List.{at_drop_more}
 use Rattle.std.specs.List.{cons_option, filter_map, range_with_len}
 use Rattle.ps_codefile.specs.declared.dictionary_layout.TheConstants.{SLOTS}
 use Rattle.ps_texts.specs.UnitNames.{has_name, with_each, with_name}
@@ -77,12 +77,6 @@ module _ (f : ℕ → Option (List ℕ)) (all old : List (List ℕ)) (i : ℕ) w
             ∙ ap (λ (k : ℕ). with_each old (filter_map f (range_with_len i k))) left),
       )
 
-  -- after the last slot
-  pub no_more : SLOTS - i ≡ 0
-      → all ≡ with_each old (filter_map f (range_with_len i (SLOTS - i))) → all ≡ old
-  no_more left h =
-      h ∙ ap (λ (k : ℕ). with_each old (filter_map f (range_with_len i k))) left
-
   -- the same of a list of all that are found
   pub one_more_had : (o : Option (List ℕ)) → i < SLOTS → f i ≡ o
       → all ≡ old ++ filter_map f (range_with_len i (SLOTS - i))
@@ -120,23 +114,8 @@ module _ (f : ℕ → Option (List ℕ)) (all old : List (List ℕ)) (i : ℕ) w
         length-append old (name ∷ []),
       )
 
-  pub no_more_had : SLOTS - i ≡ 0
-      → all ≡ old ++ filter_map f (range_with_len i (SLOTS - i)) → all ≡ old
-  no_more_had left h = h ∙ ap (λ (k : ℕ). old ++ filter_map f (range_with_len i k)) left
-      ∙ append-nil old
-
 -- each name once, of the items of a list
 module _ {A : Type 0} (f : A → Option (List ℕ)) (xs : List A) (i : ℕ) (all old : List (List ℕ)) where
-  pub next_item : (d : A) (new : List (List ℕ)) → i < length xs
-      → new ≡ with_each old (option_to_list (f (get_or xs i d)))
-      → all ≡ with_each old (filter_map f (drop i xs))
-      → all ≡ with_each new (filter_map f (drop (i + 1) xs))
-  next_item d new lt is h =
-      let rest : List (List ℕ) = filter_map f (drop (i + 1) xs) in
-      h ∙ at_drop_more (λ (ys : List A). with_each old (filter_map f ys)) xs i d lt
-      ∙ found_first old (f (get_or xs i d)) rest
-      ∙ ap (λ (names : List (List ℕ)). with_each names rest) (sym is)
-
   pub item_found : (d : A) → i < length xs → is_some (f (get_or xs i d)) ≡ true
       → all ≡ with_each old (filter_map f (drop i xs)) → 0 < length all
   item_found d lt some h =
@@ -146,7 +125,3 @@ module _ {A : Type 0} (f : A → Option (List ℕ)) (xs : List A) (i : ℕ) (all
         some_found old (f (get_or xs i d)) rest some,
         ap length (h ∙ at_drop_more (λ (ys : List A). with_each old (filter_map f ys)) xs i d lt),
       )
-
-  -- after the last item
-  pub no_item : length xs ≤ i → all ≡ with_each old (filter_map f (drop i xs)) → all ≡ old
-  no_item end h = h ∙ at_drop_all (λ (ys : List A). with_each old (filter_map f ys)) xs i end

@@ -1,6 +1,5 @@
 -- Findings about the link that are added, one list after another.
-use Rattle.std.proofs.Common.{◌≡◌, ◌∙◌, ◌∷◌, ◌++◌, ◌+◌, ◌-◌, ◌<◌, ◌≤◌, [], ℕ, suc, false, List, length, drop, map, append_assoc, append-nil, sym, ap, subst, arith}
-use Rattle.std.specs.Prelude.{Bool, Option, if◌then◌else◌}
+use Rattle.std.proofs.Common.{◌≡◌, ◌∙◌, ◌∷◌, ◌++◌, ◌+◌, ◌-◌, ◌<◌, ◌≤◌, [], ℕ, suc, List, length, drop, map, append_assoc, append-nil, sym, ap, subst, arith}
 use Rattle.std.specs.List.{enumerate_from, filter, flat_map, range_with_len}
 use Rattle.std.proofs.lemmas.List.{drop_all, map-append}
 use Rattle.std.proofs.lemmas.List.Elements.{filter-append}
@@ -101,9 +100,3 @@ pushed found place f = record {
       ∙ filter-append (λ (s : Stated). is_about_link s.finding) (map stated found)
       (stated (record { place = place; finding = f }) ∷ []);
 }
-
--- a finding that has no definition adds nothing about the link
-pub unstated : (path : List ℕ) (segment : Option (List ℕ)) (rec : Option ℕ) (f : Finding)
-    → is_about_link f ≡ false → stated_at path segment rec f ≡ []
-unstated path segment rec f h = ap (λ (b : Bool). if b
-    then record { path = path; segment = segment; rec = rec; finding = f } ∷ [] else []) h

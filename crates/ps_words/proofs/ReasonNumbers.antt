@@ -1,16 +1,9 @@
--- A reason is found by its number, and what is found by a number has it.
+-- What is found by a number has it.
 use Rattle.std.proofs.Common.{◌≡◌, ◌==◌, ℕ, List, [], ◌∷◌, Bool, true, false, Some, cond, refl, subst, arith}
-use Rattle.std.specs.Prelude.{find, unwrap_or}
+use Rattle.std.specs.Prelude.{find}
 use Rattle.std.proofs.lemmas.Bool.Decides.{nat_tests}
-use Rattle.ps_words.specs.FaultText.{kind_of, number_of, reason_of}
+use Rattle.ps_words.specs.FaultText.{number_of}
 use Rattle.ps_words.specs.declared.fault.Reason.{Reason}
-use Rattle.ps_words.specs.declared.fault.Reason.TheVariants as reason
-
--- one proof for each reason: it computes
-pub found_by_number : (why : Reason) (kind : ℕ)
-    → reason_of (number_of why) (unwrap_or (kind_of why) kind) ≡ Some why
-found_by_number reason.ShortFile kind = refl
-found_by_number other kind = refl
 
 same_number : (m n : ℕ) → (m == n) ≡ true → m ≡ n
 same_number m n h = grind (arith, nat_tests)

@@ -3,10 +3,6 @@ use Rattle.ps_resolve.specs.Sources.{contents}
 use Rattle.ps_c_texts.proofs.FileNames.{many_texts}
 use Rattle.ps_c_texts.proofs.file_names.file_names.Goals as goal
 
-pub returns-clause-cut : goal.returns-clause-cut
-returns-clause-cut g c =
-    rw (ap contents c.as_slice.ensures ∙ c.in_ok-parts.ensures.ok) at c.texts.ensures.same
-
 pub returns-clause-utf8 : goal.returns-clause-utf8
 returns-clause-utf8 g c =
     rw (ap contents c.as_slice.ensures ∙ c.in_ok-parts.ensures.ok) at c.texts.ensures.utf8

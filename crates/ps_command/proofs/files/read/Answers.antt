@@ -1,4 +1,3 @@
-use Rattle.std.proofs.Common.{inl}
 use Rattle.ps_command.proofs.Unread.{opened_unread}
 use Rattle.ps_command.proofs.files.read.Goals as goal
 

@@ -1,5 +1,5 @@
 use Rattle.std.proofs.Common.{◌∙◌, ◌++◌, ◌∷◌, [], ℕ, Bor, List, Vec, ap, ap₂, map, sym}
-use Rattle.std.proofs.lemmas.List.{map-append, map_more, take_all}
+use Rattle.std.proofs.lemmas.List.{map-append, map_more}
 use Rattle.ps_command.proofs.linking.views.Goals as goal
 
 pub loop-content-preserved : goal.loop-content-preserved

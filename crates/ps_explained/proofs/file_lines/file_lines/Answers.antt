@@ -1,29 +1,11 @@
-use Rattle.std.proofs.Common.{◌≡◌, ◌<◌, ◌≤◌, ◌+◌, ◌∷◌, [], ℕ, List, Bor, append-nil, ap, arith, drop, length, refl, string_bytes, subst, sym}
+use Rattle.std.proofs.Common.{◌≡◌, ◌<◌, ◌≤◌, ◌+◌, ◌∷◌, [], ℕ, List, Bor, append-nil, ap, arith, drop, length, refl, string_bytes, subst}
 use Rattle.std.proofs.lemmas.Bool.Decides.{nat_tests}
 use Rattle.std.proofs.lemmas.List.{drop_all}
 use Rattle.ps_resolve.specs.Sources.{contents}
 use Rattle.ps_explained.specs.FileLines.{AreFileLines}
-use Rattle.ps_explained.specs.SlotLines.{AddsSlotLines}
-use Rattle.ps_explained.proofs.FileLines.{FilesLeft, line_more, line_more_at}
+use Rattle.ps_explained.proofs.FileLines.{FilesLeft, line_more_at}
 use Rattle.ps_explained.proofs.SlotLines.{adds_then_none}
 use Rattle.ps_explained.proofs.file_lines.file_lines.Goals as goal
-
-pub loop-index-init : goal.loop-index-init
-loop-index-init g c =
-    let i = c.args.inputs.now in
-    let paths : List (List ℕ) = i.host_path.now ∷ contents i.paths.now in
-    let files : List (List ℕ) = i.host.now ∷ contents i.libs.now in
-    let empty = string_bytes c.new-text.result in
-    let start : FilesLeft paths files 0 files empty =
-    subst (λ (t : List ℕ). FilesLeft paths files 0 files t) (sym c.new-text.ensures.bytes)
-    (record { rest = λ more are. are }) in
-    record {
-      lines = line_more paths files 0 i.host.now (contents i.libs.now) c.path.result.now
-          empty (string_bytes c.add_file.new.text) c.path.ensures
-          c.in_ok-add_file.ensures.line start;
-      silent = subst (λ (t : List ℕ). AddsSlotLines t [] (string_bytes c.add_file.new.text))
-          c.new-text.ensures.bytes c.in_ok-add_file.ensures.silent;
-    }
 
 pub loop-index-preserved : goal.loop-index-preserved
 loop-index-preserved g c =

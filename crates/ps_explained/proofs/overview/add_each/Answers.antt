@@ -1,10 +1,9 @@
-use Rattle.std.proofs.Common.{◌≡◌, ◌∙◌, ◌++◌, ◌∷◌, [], List, ℕ, ap, append_assoc, map, string_bytes, subst}
-use Rattle.std.proofs.lemmas.List.{take_all}
+use Rattle.std.proofs.Common.{◌≡◌, ◌∙◌, ◌++◌, ◌∷◌, [], List, ℕ, ap, append_assoc, string_bytes, subst}
 use Rattle.ps_resolve.specs.Sources.{contents}
 use Rattle.ps_check_segments.specs.Seen.{seen}
 use Rattle.ps_check_segments.specs.declared.segments.ReadSegment.{ReadSegment}
-use Rattle.ps_explained.specs.OverviewText.{first_and_more, later_line, passed_over, segment_text, segment_texts}
-use Rattle.ps_explained.specs.SegmentLines.{line_in_slot, read_line, read_lines}
+use Rattle.ps_explained.specs.OverviewText.{first_and_more, later_line, passed_over, segment_text}
+use Rattle.ps_explained.specs.SegmentLines.{line_in_slot, read_line}
 use Rattle.ps_explained.specs.SlotLines.{AddsSlotLines}
 use Rattle.ps_explained.proofs.LinesOfSegments.{adds_next_read}
 use Rattle.ps_explained.proofs.OverviewTexts.{next_text}
@@ -43,22 +42,4 @@ loop-segment-preserved g c =
           c.loop-segment.invariant.text
           (subst (λ (x : ReadSegment). after
           ≡ before ++ segment_text paths host libs c.args.unread (seen x)) c.segment-item.is both);
-    }
-
-pub returns : goal.returns
-returns g c =
-    let list : List ReadSegment = c.args.list.now in
-    let host = c.args.inputs.now.host.now in
-    let libs : List (List ℕ) = contents c.args.inputs.now.libs.now in
-    let paths : List (List ℕ) = c.args.inputs.now.host_path.now
-    ∷ contents c.args.inputs.now.paths.now in
-    let old = string_bytes c.args.text.now in
-    let new = string_bytes c.loop-segment.text in
-    let all = take_all c.loop-segment.segment-index list c.loop-segment-test.false in
-    record {
-      lines = subst (λ (ss : List ReadSegment). AddsSlotLines old
-          (read_lines paths c.args.unread (map seen ss)) new) all c.loop-segment.invariant.lines;
-      text = subst (λ (ss : List ReadSegment). new
-          ≡ old ++ segment_texts paths host libs c.args.unread (map seen ss)) all
-          c.loop-segment.invariant.text;
     }

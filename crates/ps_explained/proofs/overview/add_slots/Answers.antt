@@ -1,9 +1,9 @@
-use Rattle.std.proofs.Common.{◌∙◌, ◌++◌, ◌+◌, ◌∷◌, [], ℕ, Bool, List, ap, append_assoc, append-nil, map, string_bytes, sym}
+use Rattle.std.proofs.Common.{◌∙◌, ◌++◌, ◌+◌, ◌∷◌, [], ℕ, Bool, List, ap, append_assoc, map, string_bytes, sym}
 use Rattle.std.specs.Prelude.{if◌then◌else◌}
 use Rattle.ps_codefile.specs.declared.dictionary_layout.TheConstants.{SLOTS}
 use Rattle.ps_check_segments.specs.Seen.{seen}
 use Rattle.ps_explained.specs.OverviewText.{is_without, slot_list}
-use Rattle.ps_explained.proofs.OverviewTexts.{slots_begin, slots_from, slots_left, slots_over}
+use Rattle.ps_explained.proofs.OverviewTexts.{slots_begin, slots_from, slots_left}
 use Rattle.ps_explained.proofs.overview.add_slots.Goals as goal
 
 pub loop-slot-init : goal.loop-slot-init
@@ -22,11 +22,3 @@ loop-slot-preserved g c =
     ∙ (append_assoc before (shown (p i)) rest
     ∙ (ap (λ (t : List ℕ). before ++ t) (sym (slots_left p SLOTS i c.loop-slot-test.true))
     ∙ c.loop-slot.invariant))
-
-pub returns : goal.returns
-returns g c =
-    let p = is_without c.args.host.now (map seen c.args.list.now) in
-    let before = string_bytes c.loop-slot.text in
-    sym (append-nil before)
-    ∙ (ap (λ (t : List ℕ). before ++ t)
-    (sym (slots_over p SLOTS c.loop-slot.slot c.loop-slot-test.false)) ∙ c.loop-slot.invariant)

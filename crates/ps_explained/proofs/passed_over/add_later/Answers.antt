@@ -1,10 +1,9 @@
-use Rattle.std.proofs.Common.{◌∙◌, ◌++◌, ◌∷◌, [], ℕ, List, append-nil, ap, string_bytes, sym}
+use Rattle.std.proofs.Common.{◌∙◌, ◌++◌, ◌∷◌, [], ℕ, List, ap, string_bytes, sym}
 use Rattle.std.proofs.lemmas.Result.{on_ok_weaker}
 use Rattle.ps_resolve.specs.Sources.{contents}
 use Rattle.ps_explained.specs.OverviewText.{later_line, later_words}
-use Rattle.ps_explained.proofs.FirstOf.{of_found, of_none}
+use Rattle.ps_explained.proofs.FirstOf.{of_found}
 use Rattle.ps_explained.proofs.OverviewTexts.{adds_later}
-use Rattle.ps_explained.proofs.SlotLines.{adds_none}
 use Rattle.ps_explained.proofs.passed_over.add_later.Goals as goal
 
 pub returns-in-Some : goal.returns-in-Some
@@ -25,15 +24,4 @@ returns-in-Some g c =
           ∙ (ap (λ (p : List ℕ). old ++ (later_words p index more ++ 10 ∷ [])) c.path-path.ensures
           ∙ ap (λ (t : List ℕ). old ++ t) (sym (ap (later_line paths) found))))
           c.push_later.ensures;
-    }
-
-pub returns-in-None : goal.returns-in-None
-returns-in-None g c =
-    let i = c.args.inputs.now in
-    let paths : List (List ℕ) = i.host_path.now ∷ contents i.paths.now in
-    let old = string_bytes c.args.text.now in
-    let none = of_none _ _ _ c.later_entries.ensures c.in-None.is in
-    record {
-      lines = adds_none old;
-      text = sym (ap (λ (t : List ℕ). old ++ t) (ap (later_line paths) none) ∙ append-nil old);
     }

@@ -1,9 +1,6 @@
 use Rattle.ps_explained.proofs.Tables.{remedy_printed, remedy_short}
 use Rattle.ps_explained.proofs.sentences.remedy_of.Goals as goal
 
-pub returns-clause-sentence : goal.returns-clause-sentence
-returns-clause-sentence c = c.row.ensures
-
 pub returns-clause-short : goal.returns-clause-short
 returns-clause-short c = remedy_short _ c.args.number c.row.ensures
 

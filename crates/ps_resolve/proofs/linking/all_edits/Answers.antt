@@ -1,4 +1,4 @@
-use Rattle.ps_resolve.proofs.Vocabulary.{rules, ◌≡◌, ℕ, ◌+◌, ◌<◌, ◌∷◌, [], List, length, map, get_or, true, sym, subst, arith, append-nil, All, All-take, err_from_is_err_and, Edit, Order, is_reserved, is_host, IsOfTable, references_fault_from, data_edits, edited_from, owner_of, all_words, Known, HaveTargets, Segment, IsSound, IsLike}
+use Rattle.ps_resolve.proofs.Vocabulary.{rules, ◌≡◌, ℕ, ◌<◌, ◌∷◌, [], List, length, map, get_or, true, sym, subst, arith, append-nil, All-take, err_from_is_err_and, Edit, Order, is_reserved, is_host, data_edits, edited_from, Known, HaveTargets, Segment, IsLike}
 use Rattle.ps_resolve.proofs.AllSegments.{room_at, stop_at, words_on, first_on, links_on, none_left}
 use Rattle.ps_reading.proofs.FirstSlots.{none_mapped}
 use Rattle.ps_reading.proofs.NextItems.{map_push}
@@ -8,20 +8,15 @@ use Rattle.ps_resolve.proofs.linking.all_edits.Goals as goal
 
 pub segment_edits-requires : goal.segment_edits-requires
 segment_edits-requires g c =
-    let order : Order = c.args.link.now.order in
-    let size : Edit = c.args.link.now.size in
     let ss : List Segment = c.args.segments.now in
-    let i : ℕ = c.loop-index.index in
-    let lt : i < length ss = omega arith in
+    let lt : c.loop-index.index < length ss = omega arith in
     let v : Segment = c.index-segments-index.result in
-    let is : v ≡ get_or ss i v = c.index-segments-index.is in
+    let is = c.index-segments-index.is in
     record {
-      sound = subst (IsSound order) (sym is) (c.requires.sound i v lt);
+      sound = rw is (c.requires.sound _ v lt);
       room = search (rules, room_at);
-      table = subst (λ (s : Segment). is_host s.role ≡ true → IsOfTable order s.code size)
-          (sym is) (c.requires.table i v lt);
-      alike = All-take (IsLike v) i ss (subst (λ (s : Segment). All (IsLike s) ss) (sym is)
-          (c.requires.alike i v lt));
+      table = rw is (c.requires.table _ v lt);
+      alike = All-take (IsLike v) _ ss (rw is (c.requires.alike _ v lt));
       named = c.loop-index.invariant.named;
     }
 
@@ -38,26 +33,22 @@ loop-index-preserved g c =
     let lt : i < length ss = omega arith in
     let v : Segment = c.index-segments-index.result in
     let is : v ≡ get_or ss i v = c.index-segments-index.is in
-    let free : ℕ = c.loop-index.free in
-    let end : ℕ = c.in_ok-found.end in
     let inv = c.loop-index.invariant in
-    let sound = c.in_ok-found.ensures.sound in
+    let found = c.in_ok-found.ensures in
     record {
-      words = words_on order known ss i v lt is free end c.in_ok-found.ensures.end
-          (c.args.base + all_words (map owner_of ss)) inv.words;
-      first = first_on order known ss i v lt is free end c.in_ok-found.ensures.end
-          (references_fault_from order known c.args.base ss) inv.first sound;
+      words = words_on order known ss i v lt is _ _ found.end _ inv.words;
+      first = first_on order known ss i v lt is _ _ found.end _ inv.first found.sound;
       links = λ words all behind h. rw (c.in_ok-push.ensures.items, map_push)
-          (links_on order known ss i v lt is free end c.in_ok-found.ensures.end words
+          (links_on _ _ ss i v lt is _ _ found.end words
           (edited_from order known words c.args.base ss)
           (map (λ e. e.items) c.loop-index.edits.items) c.in_ok-found.found.items
-          (c.in_ok-found.ensures.links words
+          (found.links words
           (subst (λ (s : Segment). is_host s.role ≡ true
           → data_edits order words s.code ≡ size ∷ []) (sym is) (all i v lt)))
           (inv.links words all) behind h);
       named = all_taken (λ (s : Segment). HaveTargets known s.records) i ss v lt is inv.named
-          (have_targets known (is_reserved order v.code) v.code v.records 0 free []
-          (none_mapped _ _ sound));
+          (have_targets known (is_reserved order v.code) v.code v.records 0 _ []
+          (none_mapped _ _ found.sound));
     }
 
 pub returns-clause-links : goal.returns-clause-links

@@ -4,6 +4,3 @@ use Rattle.ps_texts.proofs.texts.wanted_of.Goals as goal
 pub returns-clause-made : goal.returns-clause-made
 returns-clause-made g c =
     rw c.read-reading.ensures at (c.wanted_in.ensures.made (paths_in c.args.files.now))
-
-pub returns-clause-unmade : goal.returns-clause-unmade
-returns-clause-unmade g c = rw c.read-reading.ensures at c.wanted_in.ensures.unmade

@@ -1,6 +1,6 @@
 use Rattle.std.proofs.Common.{◌∙◌, ap, is_some, refl, sym, arith}
 use Rattle.ps_texts.specs.UnitNames.{slots_wanted, wanted_name}
-use Rattle.ps_texts.proofs.SlotNames.{no_more, of_error, one_found, one_more}
+use Rattle.ps_texts.proofs.SlotNames.{of_error, one_found, one_more}
 use Rattle.ps_texts.proofs.units.slots_wanted.Goals as goal
 
 pub loop-slot-init : goal.loop-slot-init
@@ -12,13 +12,6 @@ loop-slot-preserved g c =
     let host = c.args.host.now in
     one_more (wanted_name host.order host.file) (slots_wanted host.order host.file) _ _ _
     c.loop-slot-test.true (grind arith) c.loop-slot.invariant
-
-pub returns-clause-names : goal.returns-clause-names
-returns-clause-names g c =
-    let host = c.args.host.now in
-    sym (no_more (wanted_name host.order host.file) (slots_wanted host.order host.file)
-    c.loop-slot.names.items c.loop-slot.slot (omega (arith, c.loop-slot-test.false))
-    c.loop-slot.invariant)
 
 pub returns-in_err-add_found-clause-memory : goal.returns-in_err-add_found-clause-memory
 returns-in_err-add_found-clause-memory g c =

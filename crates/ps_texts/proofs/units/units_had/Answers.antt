@@ -1,6 +1,6 @@
-use Rattle.std.proofs.Common.{Some, refl, sym, ◌∙◌, arith}
+use Rattle.std.proofs.Common.{Some, refl, sym, ◌∙◌}
 use Rattle.ps_texts.specs.UnitNames.{units_had, had_name}
-use Rattle.ps_texts.proofs.SlotNames.{no_more_had, none_more_had, of_error, one_more_had, some_had}
+use Rattle.ps_texts.proofs.SlotNames.{none_more_had, of_error, one_more_had, some_had}
 use Rattle.ps_texts.proofs.units.units_had.Goals.{in-Some+in_ok-push, in_default}
 use Rattle.ps_texts.proofs.units.units_had.Goals as goal
 
@@ -22,13 +22,6 @@ loop-slot-preserved g c =
       | in_default w ↦ rw w.names-is (none_more_had f all l.names.items l.slot lt
           (found ∙ w.in_default.is) l.invariant)
     ]
-
-pub returns-clause-names : goal.returns-clause-names
-returns-clause-names g c =
-    let dict = c.args.dict.now in
-    sym (no_more_had (had_name dict.order dict.file) (units_had dict.order dict.file)
-    c.loop-slot.names.items c.loop-slot.slot (omega (arith, c.loop-slot-test.false))
-    c.loop-slot.invariant)
 
 pub returns-in_err-push-clause-memory : goal.returns-in_err-push-clause-memory
 returns-in_err-push-clause-memory g c =

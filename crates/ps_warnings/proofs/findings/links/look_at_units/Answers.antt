@@ -4,8 +4,8 @@ use Rattle.ps_check_segments.specs.Paths.{paths_in}
 use Rattle.ps_warnings.specs.AllFindings.{findings_of_unit, findings_of_units}
 use Rattle.ps_check_segments.specs.Seen.{seen}
 use Rattle.ps_check_segments.specs.declared.segments.ReadSegment.{ReadSegment}
-use Rattle.ps_warnings.proofs.Found.{numbered_left, numbered_over, owes_all, owes_less, owes_none}
-use Rattle.ps_warnings.proofs.SeenLists.{seen_left, seen_over}
+use Rattle.ps_warnings.proofs.Found.{numbered_left, owes_all, owes_less}
+use Rattle.ps_warnings.proofs.SeenLists.{seen_left}
 use Rattle.ps_warnings.proofs.findings.links.look_at_units.Goals as goal
 
 pub loop-index-init : goal.loop-index-init
@@ -24,12 +24,3 @@ loop-index-preserved g c =
     (paths_in c.args.context.now.inputs.now) c.args.host.now.order
     c.args.host.now.file (map seen ss)) i (map seen ss) i (seen s) (seen_left ss i s here))
     c.loop-index.invariant c.in_ok-look_at_unit.ensures
-
-pub returns : goal.returns
-returns g c =
-    let ss = c.args.context.now.list.now in
-    let i = c.loop-index.index in
-    owes_none (numbered_over (findings_of_unit
-    (paths_in c.args.context.now.inputs.now) c.args.host.now.order
-    c.args.host.now.file (map seen ss)) i (map seen ss) i
-    (seen_over ss i c.loop-index-test.false)) c.loop-index.invariant
