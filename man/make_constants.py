@@ -3,7 +3,8 @@
 next one, from the variants of `Reason`, so that they have one home; the highest number of them into the comments of reason.rs and
 into docs/json-schema.json; library/faults.h and web/pslink.mjs, which have the name of each with the sentences that `pslink check` prints; the
 texts of `kinds.rt` into include/pslink.h, docs/EMBEDDING.md and the Rust crate, each with what is said of it there, library/kinds.h,
-web/pslink.mjs, web/README.md and the Python package; and the release of CHANGES.md into the header and the bindings.
+web/pslink.mjs, web/README.md and the Python package; the calls for names of units into the bindings and the pages on them; and the
+release of CHANGES.md into the header and the bindings.
 Usage: make_constants.py [FOLDER], which is the files' own if none is given."""
 import pathlib
 import re
@@ -27,12 +28,15 @@ SCRIPT, OF_SCRIPT = ROOT / "web/pslink.mjs", ROOT / "web/README.md"
 PAGE = ROOT / "docs/EMBEDDING.md"
 HEAD = "| `what` | What it makes | The program prints it by |\n|---|---|---|\n"
 RUST, PYTHON = ROOT / "bindings/rust/src/lib.rs", ROOT / "bindings/python/pslink/__init__.py"
+OF_RUST, OF_PYTHON = ROOT / "docs/RUST.md", ROOT / "docs/PYTHON.md"
 PACKAGE = ROOT / "bindings/rust/Cargo.toml"
 # what a status says, by its number
 STATUSES = [
     "done", "the files are refused", "the call is not as pslink.h says", None, "out of memory", "out is smaller than the result",
     "a name of a file is no UTF-8",
 ]  # fmt: skip
+# where there are no names of units
+NONE = "There is none where the {} is linked already, or where its list says that it is something else than a code file."
 # each file that has the highest number, and what stands around it
 HIGHEST = {
     REASONS: r"(number, 1 to )\d+()\b",
@@ -89,6 +93,19 @@ class Kind(NamedTuple):
     @property
     def word(self):
         return self.name.lower()
+
+    @property
+    def is_of_host(self):
+        """The text is of the first file alone."""
+        return self.made.startswith("TextKind::OfHost(")
+
+    @property
+    def names(self):
+        """Which names a call for names of units gives, and all else that is said of them, in sentences."""
+        words = self.words.replace("the first file", "the file") if self.is_of_host else self.words
+        first, _, more = f"The names of {words}.".partition(". ")
+        file = "file" if self.is_of_host else "host"
+        return first.removesuffix("."), f"{more} {NONE.format(file)}".lstrip()
 
 
 def kinds(function):
@@ -153,7 +170,7 @@ def page():
 
 def between(text, source, lines):
     """The text of a file with these lines between the comment that names this script, with what it makes them from, and the next one."""
-    pattern = rf"(make_constants\.py from {re.escape(source)}(?: \*/)?\n).*?(^ *(?:/\*|//) end)"
+    pattern = rf"(make_constants\.py from {re.escape(source)}(?: \*/)?\n).*?(^ *(?:/\*|//|#) end)"
     text, count = re.subn(pattern, lambda match: match[1] + "".join(lines) + match[2], text, flags=re.M | re.S)
     if count != 1:
         raise ValueError(f"{count} places are made from {source}")
@@ -193,11 +210,25 @@ def script():
     return replaced(text, (r"(TEXTS = Object\.freeze\(\{\n  __proto__: null,\n  ).*(,$)", listed), (r"^(const OF_NAMES = .*\[).*(\])", of_names))
 
 
+def calls_in_python():
+    """The calls for names of units as Python has them, each with what is said of it in lines of at most 120 characters."""
+    for kind in NAMES:
+        first, more = kind.names
+        given, files = ("file: File", "file") if kind.is_of_host else ("host: File, libs: Iterable[File] = ()", "host, libs")
+        said = [f'"""{first}, as \'UTIL\'.', "", *textwrap.wrap(f"{more} Raises what `show` raises.", 116, break_on_hyphens=False), '"""']
+        yield f"def units_{kind.word}({given}) -> List[str]:\n"
+        yield from (f"    {line}".rstrip() + "\n" for line in said)
+        yield f'    return _Files({files}).units(_NAMES["{kind.word}"])\n\n\n'
+
+
 def package():
-    """The module in Python, with the texts by their numbers."""
+    """The module in Python, with the texts by their numbers, and the calls for names of units."""
     words = ", ".join(f'"{kind.word}"' for kind in TEXTS)
-    listed = ", ".join(f'"{kind.word}": {kind.number}' for kind in TEXTS)
-    return replaced(PYTHON.read_text(), (r"^(Text = Literal\[).*(\])", words), (r"^(_TEXTS = \{).*(\})", listed))
+    listed, of_names = (", ".join(f'"{kind.word}": {kind.number}' for kind in kinds) for kinds in (TEXTS, NAMES))
+    calls = ", ".join(f'"units_{kind.word}"' for kind in NAMES)
+    text = between(PYTHON.read_text(), f"{KINDS_FROM}: the names of units", calls_in_python())
+    places = (r"^(_TEXTS = \{).*(\})", listed), (r"^(_NAMES = \{).*(\})", of_names)
+    return replaced(text, (r"^(Text = Literal\[).*(\])", words), (r'^(    )"units_.*(,)$', calls), *places)
 
 
 def page_of_script():
@@ -208,20 +239,44 @@ def page_of_script():
     return replaced(OF_SCRIPT.read_text(), *places)
 
 
+def commented(indent, *paragraphs):
+    """These paragraphs, as a comment in Rust."""
+    for number, words in enumerate(paragraphs):
+        lines = textwrap.wrap(words, 88, break_long_words=False, break_on_hyphens=False)
+        yield from (f"{indent}/// {line}".rstrip() + "\n" for line in [""][:number] + lines)
+
+
 def variants_of_texts():
     """The texts that have a document as Rust has them, each with what is said of it."""
     for kind in TEXTS:
-        said = textwrap.wrap(f"{kind.words[0].upper()}{kind.words[1:]}.", 88, break_long_words=False, break_on_hyphens=False)
-        printed = ["", f"The command `{kind.command}` prints it."] if kind.command else []
-        yield from (f"    /// {line}".rstrip() + "\n" for line in said + printed)
+        printed = [f"The command `{kind.command}` prints it."] if kind.command else []
+        yield from commented("    ", f"{kind.words[0].upper()}{kind.words[1:]}.", *printed)
         yield f"    {kind.word.capitalize()} = {kind.number},\n"
 
 
+def calls_in_rust():
+    """The names of units by their numbers, and the calls for them as Rust has them, each with what is said of it."""
+    yield from (f"const {kind.name}: u32 = {kind.number};\n" for kind in NAMES)
+    for kind in NAMES:
+        first, more = kind.names
+        of_file = "file: impl Into<File<'a>>"
+        of_files = "\n    host: impl Into<File<'a>>,\n    libs: impl IntoIterator<Item = File<'a>>,\n"
+        given, files = (of_file, "file, []") if kind.is_of_host else (of_files, "host, libs")
+        yield from ("\n", *commented("", f"{first}.", more, "# Errors"), "/// Those of [`show`].\n")
+        yield f"pub fn units_{kind.word}<'a>({given}) -> Result<Vec<Name>, Error> {{\n"
+        yield f"    Files::new({files}).units({kind.name})\n}}\n"
+
+
 def crate():
-    """The Rust crate, with the texts by their numbers."""
-    of_names = [f"const {kind.name}: u32 = {kind.number};\n" for kind in NAMES]
+    """The Rust crate, with the texts by their numbers, and the calls for names of units."""
     text = between(RUST.read_text(), f"{KINDS_FROM}: the texts", variants_of_texts())
-    return between(text, f"{KINDS_FROM}: the names of units", of_names)
+    return between(text, f"{KINDS_FROM}: the names of units", calls_in_rust())
+
+
+def page_of_binding(page, prefix):
+    """The page on a binding, with the calls for names of units."""
+    calls = ", ".join(f"`{prefix}units_{kind.word}({'file' if kind.is_of_host else 'host, libs'})`" for kind in NAMES)
+    return replaced(page.read_text(), (rf"^(\| )`{re.escape(prefix)}units_.*?( \| )", calls))
 
 
 def with_release(file, text):
@@ -246,6 +301,8 @@ def made():
     yield SCRIPT, script()
     yield OF_SCRIPT, page_of_script()
     yield PAGE, page()
+    yield OF_PYTHON, page_of_binding(OF_PYTHON, "pslink.")
+    yield OF_RUST, page_of_binding(OF_RUST, "")
 
 
 def main():

@@ -27,7 +27,8 @@ if TYPE_CHECKING:
 # (`map` is not among them, so that `import *` keeps Python's own)
 __all__ = [
     "File", "Finding", "Refused", "Report", "Summary", "Text", "check", "fault_meaning", "fault_name", "fault_remedy", "link",
-    "link_with_summary", "release_number", "show", "text", "units_had", "units_wanted",
+    "link_with_summary", "release_number", "show", "text",
+    "units_wanted", "units_had",
 ]  # fmt: skip
 __version__ = "0.4.0"
 # The interface that this package calls, by the node of the library's symbols, and the number of the first release that has all of it.
@@ -46,8 +47,7 @@ File = Union[_Contents, Tuple[str, _Contents]]
 # what a `check` finds, one by one.
 Text = Literal["map", "references", "show", "check", "list", "units", "findings"]
 _TEXTS = {"map": 0, "references": 1, "show": 2, "check": 3, "list": 4, "units": 5, "findings": 6}
-_WANTED = 7
-_HAD = 8
+_NAMES = {"wanted": 7, "had": 8}
 _JSON = 256
 _NAME, _MEANING, _REMEDY = 0, 1, 2
 _NAME_LENGTH = 8
@@ -466,19 +466,26 @@ def show(file: File) -> str:
     return text("show", file)
 
 
+# made by man/make_constants.py from crates/ps_c_texts/src/kinds.rt: the names of units
 def units_wanted(host: File, libs: Iterable[File] = ()) -> List[str]:
-    """The names of the units that a link takes from libraries, or would take if they had them, as 'UTIL'.
+    """The names of the units that a link takes from libraries, or would take if a library had them, each once, as 'UTIL'.
 
-    First those that the host's slots want, by slot, then those that a record requests and no slot of the host has:
-    each name once, whether the libraries have the unit or not. They are told as far as a link reads: those that a unit
-    uses where the libraries have that unit, none of a segment that cannot be read, and none of a unit that is looked
-    for after one that is missing. A host that is linked already, or that its list calls something else than a code
-    file, wants none. Raises Refused only where the host cannot be opened, with fault 1 or 2, and else what `link` raises.
+    First come those that the slots of the host want, by slot. Then come those that a record requests, of the host or of
+    a unit that was found, and no slot of the host has: in the order of their requests, ten of these at most. They are
+    told as far as a link reads: a segment that cannot be read requests none, and no unit is looked for after one that
+    is missing. There is none where the host is linked already, or where its list says that it is something else than a
+    code file. Raises what `show` raises.
     """
-    return _Files(host, libs).units(_WANTED)
+    return _Files(host, libs).units(_NAMES["wanted"])
 
 
 def units_had(file: File) -> List[str]:
-    """The names of the units whose code a file has, by slot: none of a linked file, or of one that its list calls
-    something else than a code file. Raises what `show` raises."""
-    return _Files(file).units(_HAD)
+    """The names of the units whose code the file has, by slot, as 'UTIL'.
+
+    There is none where the file is linked already, or where its list says that it is something else than a code file.
+    Raises what `show` raises.
+    """
+    return _Files(file).units(_NAMES["had"])
+
+
+# end

@@ -49,11 +49,6 @@ const MISUSE: u32 = 2;
 const NO_MEMORY: u32 = 4;
 const TOO_SMALL: u32 = 5;
 
-// made by man/make_constants.py from crates/ps_c_texts/src/kinds.rt: the names of units
-const WANTED: u32 = 7;
-const HAD: u32 = 8;
-// end
-
 const NAME: u32 = 0;
 const MEANING: u32 = 1;
 const REMEDY: u32 = 2;
@@ -466,16 +461,22 @@ pub fn text<'a>(
     Ok(Files::new(host, libs).text(what, form)?.0)
 }
 
-/// The names of the units that a link takes from libraries, or would take if they had them: first
-/// those that the host's slots want, by slot, then those that a record requests and no slot of the
-/// host has: each name once, whether the libraries have the unit or not. They are told as far as a
-/// link reads: those that a unit uses where the libraries have that unit, none of a segment that
-/// cannot be read, and none of a unit that is looked for after one that is missing. A host that is
-/// linked already, or that its list calls something else than a code file, wants none.
+// made by man/make_constants.py from crates/ps_c_texts/src/kinds.rt: the names of units
+const WANTED: u32 = 7;
+const HAD: u32 = 8;
+
+/// The names of the units that a link takes from libraries, or would take if a library had
+/// them, each once.
+///
+/// First come those that the slots of the host want, by slot. Then come those that a record
+/// requests, of the host or of a unit that was found, and no slot of the host has: in the
+/// order of their requests, ten of these at most. They are told as far as a link reads: a
+/// segment that cannot be read requests none, and no unit is looked for after one that is
+/// missing. There is none where the host is linked already, or where its list says that it
+/// is something else than a code file.
 ///
 /// # Errors
-/// [`Error::Refused`] where the host cannot be opened, with [`Reason::ShortFile`] or
-/// [`Reason::NoOrder`]; else as of [`link`].
+/// Those of [`show`].
 pub fn units_wanted<'a>(
     host: impl Into<File<'a>>,
     libs: impl IntoIterator<Item = File<'a>>,
@@ -483,14 +484,17 @@ pub fn units_wanted<'a>(
     Files::new(host, libs).units(WANTED)
 }
 
-/// The names of the units whose code a file has, by slot: none of a linked file, or of one that its
-/// list calls something else than a code file.
+/// The names of the units whose code the file has, by slot.
+///
+/// There is none where the file is linked already, or where its list says that it is
+/// something else than a code file.
 ///
 /// # Errors
-/// Those of [`units_wanted`].
+/// Those of [`show`].
 pub fn units_had<'a>(file: impl Into<File<'a>>) -> Result<Vec<Name>, Error> {
     Files::new(file, []).units(HAD)
 }
+// end
 
 /// What a code file has, of any contents, as text.
 ///

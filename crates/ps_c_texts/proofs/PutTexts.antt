@@ -15,9 +15,7 @@ use Rattle.ps_words.specs.FaultPlaces.{in_file}
 use Rattle.ps_words.specs.declared.fault.Fault.{Fault}
 use Rattle.ps_words.specs.declared.fault.Reason.TheVariants as reason
 use Rattle.ps_texts.specs.Texts.{IsMadeOf, bytes_in, report_bytes, report_status, status_in}
-use Rattle.ps_texts.specs.Unmade.{CanLackMemory, CanRefuseHost, IsRefusedFor, WhyUnmade}
-use Rattle.ps_texts.specs.declared.kinds.HostText.{HostText}
-use Rattle.ps_texts.specs.declared.kinds.HostText.TheVariants as of_host
+use Rattle.ps_texts.specs.Unmade.{CanLackMemory, IsRefusedFor, WhyUnmade}
 use Rattle.ps_texts.specs.declared.kinds.NamedText.TheVariants as of_named
 use Rattle.ps_texts.specs.declared.kinds.ReportText.{ReportText}
 use Rattle.ps_texts.specs.declared.kinds.TextKind.{TextKind}
@@ -297,15 +295,11 @@ module _ (names : List (List ℕ)) (host : List ℕ) (libs : List (List ℕ)) wh
   host_may_lack k alone (inl lacks) = inl (host_can_lack k alone lacks)
   host_may_lack k alone (inr made) = inr (made.0, host_made k made.0 alone made.1)
 
-  host_slot : (what : HostText) (f : Fault) → CanRefuseHost what host f → f.slot ≡ None
-  host_slot (of_host.Show form) f h = shown_whole host f h
-  host_slot of_host.Had f h = ap (λ (g : Fault). g.slot) h.2
-
   host_refused : (k : TextKind) (r : Refusal) → is_of_host k ≡ true → IsRefusedFor k host [] r
       → IsRefusedFor k host libs r
   host_refused (kind.OfLink what form) r alone h = absurd (true≢false (sym alone))
   host_refused (kind.OfHost what) r alone h =
-      (h.0, h.1 ∙ same_name host libs r.fault (host_slot what r.fault h.0))
+      (h.0, h.1 ∙ same_name host libs r.fault (shown_whole host r.fault h.0))
   host_refused kind.Wanted r alone h = absurd (true≢false (sym alone))
   host_refused (kind.Named what) r alone h = absurd (true≢false (sym alone))
 

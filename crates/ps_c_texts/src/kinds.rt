@@ -1,5 +1,5 @@
 //! The texts that there are, by their numbers. The comments on the numbers are those of
-//! `include/pslink.h`, docs/EMBEDDING.md, pslink(3) and the Rust crate too, which
+//! `include/pslink.h`, docs/EMBEDDING.md, pslink(3) and the bindings too, which
 //! `man/make_constants.py` and `man/make_pages.py` write.
 ghost use Rattle.std.specs.Prelude.{◌≡◌};
 ghost use Rattle.ps_c_texts.specs.Kinds.{kind_in as kind_in_spec, list_in as list_in_spec, report_text as report_text_spec, text_kind as text_kind_spec, units_in as units_in_spec};

@@ -3,7 +3,6 @@ use Rattle.std.proofs.Common.{◌≡◌, ◌∙◌, ◌==◌, ◌||◌, not, ℕ
 use Rattle.std.specs.Prelude.{if◌then◌else◌, max}
 use Rattle.std.specs.Io.KnownBytes.{Appends}
 use Rattle.std.proofs.lemmas.Bool.Decides.{nat_tests}
-use Rattle.std.proofs.lemmas.Result.{on_err_weaker}
 use Rattle.ps_arguments.specs.CommandLine.{Text}
 use Rattle.ps_filetype.specs.CodeTypes.{is_code_type}
 use Rattle.ps_listing.specs.FileLists.{Listed, is_refused_as_listed, is_refused_in, listed, listed_as}
@@ -13,11 +12,11 @@ use Rattle.ps_listing.specs.Phrases.{IsPhrase}
 use Rattle.ps_listing.specs.declared.lists.ListForm.{ListForm}
 use Rattle.ps_listing.specs.declared.lists.ListForm.TheVariants as form
 use Rattle.ps_writing.specs.Prefixes.{AppendsPrefix}
-use Rattle.ps_command.specs.Failures.{CutsFiles, CutsListed, CutsUnread}
+use Rattle.ps_command.specs.Failures.{CutsDocument, CutsFiles, CutsListed, CutsUnread}
 use Rattle.ps_command.specs.Lists.{IsListText, list_status}
 use Rattle.ps_command.specs.ReadFaults.{IsNotRead}
 use Rattle.ps_output_files.specs.World.{Reads, World}
-use Rattle.ps_command.specs.Printed.{IsListed, PrintsFiles, PrintsUnread}
+use Rattle.ps_command.specs.Printed.{IsListed, PrintsDocument, PrintsFiles, PrintsUnread, document_end, document_start}
 use Rattle.ps_command.specs.Statuses.{ended_status}
 use Rattle.ps_command.specs.declared.ended.Ended.{Ended}
 use Rattle.ps_command.specs.declared.ended.Ended.TheVariants as ended
@@ -69,56 +68,68 @@ text_of_list how first path phrase file false is said =
 
 module _ (world : World) (how : ListForm)
     (first : Bool) (path : Text) where
-  -- a file was read, and its list printed
-  pub is_listed : {E : Type 0} (file : List ℕ) (l : Listed) (r : Result Ended E)
+  -- a file was read, and its list printed, or a prefix of it
+  pub one_listed : {E : Type 0} (file : List ℕ) (l : Listed) (r : Result Ended E)
       (old new : Option (List ℕ)) → Reads world path file → l.how ≡ how → l.path ≡ path → l.file ≡ file
       → IsPhrase file l.phrase
       → IfOk r (λ e. ended_status e ≡ (if is_refused_in l then 1 else 0))
-      → OnOk r (Appends old new (listed first l))
+      → OnOk r (Appends old new (listed first l)) → OnErr r (AppendsPrefix old new (listed first l))
       → IfOk r (λ e. IsListed world how first path (ended_status e) old new)
-  is_listed file l (Ok e) old new read how_is path_is file_is said ends prints =
+      × OnErr r (CutsListed world how first path old new)
+  one_listed file l (Ok e) old new read how_is path_is file_is said ends prints cut =
       let status : ended_status e ≡ (if is_refused_as_listed how l.phrase file then 1 else 0) =
       rw (how_is, file_is) at ends in
       let text : Appends old new (listed_as how first path l.phrase file) =
-      rw (how_is, path_is, file_is) at prints in
-      inl (
-        file,
-        listed_as how first path l.phrase file,
-        read,
-        status ∙ status_of_list how l.phrase file said,
-        text_of_list how first path l.phrase file (is_code_type file) refl said,
-        text,
+      rw (how_is, path_is, file_is) at prints in (
+        inl (
+          file,
+          listed_as how first path l.phrase file,
+          read,
+          status ∙ status_of_list how l.phrase file said,
+          text_of_list how first path l.phrase file (is_code_type file) refl said,
+          text,
+        ),
+        tt,
       )
-  is_listed file l (Err e) old new read how_is path_is file_is said ends prints = tt
-
-  -- a file was not read, and what there is of it printed
-  pub is_unread : {E : Type 0} (r : Result Ended E) (old new : Option (List ℕ)) → IsNotRead world path
-      → IfOk r (λ e. e ≡ ended.Unread) → OnOk r (PrintsUnread how first path old new)
-      → IfOk r (λ e. IsListed world how first path (ended_status e) old new)
-  is_unread (Ok e) old new unread is prints = inr (ap ended_status is, unread, prints)
-  is_unread (Err e) old new unread is prints = tt
-
-  -- a file was read, and a prefix of its list printed
-  pub cut_listed : {T E : Type 0} (file : List ℕ) (l : Listed) (r : Result T E)
-      (old new : Option (List ℕ)) → Reads world path file → l.how ≡ how → l.path ≡ path → l.file ≡ file
-      → IsPhrase file l.phrase → OnErr r (AppendsPrefix old new (listed first l))
-      → OnErr r (CutsListed world how first path old new)
-  cut_listed file l (Ok x) old new read how_is path_is file_is said cut = tt
-  cut_listed file l (Err e) old new read how_is path_is file_is said cut =
+  one_listed file l (Err e) old new read how_is path_is file_is said ends prints cut =
       let text : AppendsPrefix old new (listed_as how first path l.phrase file) =
-      rw (how_is, path_is, file_is) at cut in
-      inl (
-        file,
-        listed_as how first path l.phrase file,
-        read,
-        text_of_list how first path l.phrase file (is_code_type file) refl said,
-        text,
+      rw (how_is, path_is, file_is) at cut in (
+        tt,
+        inl (
+          file,
+          listed_as how first path l.phrase file,
+          read,
+          text_of_list how first path l.phrase file (is_code_type file) refl said,
+          text,
+        ),
       )
 
-  -- a file was not read, and a prefix of what there is of it printed
-  pub cut_unread : {T E : Type 0} (r : Result T E) (old new : Option (List ℕ)) → IsNotRead world path
-      → OnErr r (CutsUnread how first path old new) → OnErr r (CutsListed world how first path old new)
-  cut_unread r old new unread cut = on_err_weaker r (λ some. inr (unread, some)) cut
+  -- a file was not read, and what there is of it printed, or a prefix of that
+  pub one_unread : {E : Type 0} (r : Result Ended E) (old new : Option (List ℕ)) → IsNotRead world path
+      → IfOk r (λ e. e ≡ ended.Unread) → OnOk r (PrintsUnread how first path old new)
+      → OnErr r (CutsUnread how first path old new)
+      → IfOk r (λ e. IsListed world how first path (ended_status e) old new)
+      × OnErr r (CutsListed world how first path old new)
+  one_unread (Ok e) old new unread is prints cut = (inr (ap ended_status is, unread, prints), tt)
+  one_unread (Err e) old new unread is prints cut = (tt, inr (unread, cut))
+
+module _ (world : World) (how : ListForm) (all : List Text) where
+  -- a document was printed, or a prefix of it: of what is before its items, of these, or of the rest
+  pub whole_document : (status : ℕ) (old started ended new : Option (List ℕ))
+      → Appends old started document_start → PrintsFiles world how true all status started ended
+      → Appends ended new document_end → PrintsDocument world how all status old new
+  whole_document status old started ended new start items rest =
+      (started, ended, start, items, rest)
+
+  pub cut_items : (old started new : Option (List ℕ)) → Appends old started document_start
+      → CutsFiles world how true all started new → CutsDocument world how all old new
+  cut_items old started new start cut = inr (started, start, inl cut)
+
+  pub cut_rest : (status : ℕ) (old started ended new : Option (List ℕ))
+      → Appends old started document_start → PrintsFiles world how true all status started ended
+      → AppendsPrefix ended new document_end → CutsDocument world how all old new
+  cut_rest status old started ended new start items cut =
+      inr (started, start, inr (status, ended, items, cut))
 
 module _ (world : World) (how : ListForm)
     (all : List Text) (old : Option (List ℕ)) where

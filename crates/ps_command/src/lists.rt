@@ -153,6 +153,7 @@ fn print_files<'a, R: CodeFiles, A: Allocator + Copy, O: Write, E: Write>(
 
 /// Prints one JSON document of the lists of the files in this form, and reports each that cannot be
 /// read. Returns the worst end of all.
+#[tactic(auto, using(crate::proofs::ListsPrinted::whole_document, crate::proofs::ListsPrinted::cut_items, crate::proofs::ListsPrinted::cut_rest))]
 fn print_document<'a, R: CodeFiles, A: Allocator + Copy, O: Write, E: Write>(
     rt: &R,
     alloc: A,

@@ -1,5 +1,5 @@
 -- The libraries of a link, from one of them on.
-use Rattle.ps_reading.proofs.Vocabulary.{◌≡◌, ℕ, suc, ◌+◌, ◌<◌, List, [], ◌∷◌, length, get_or, drop, map, Bool, true, false, if◌then◌else◌, Option, Some, None, Ok, Err, Bor, inl, inr, refl, ◌∙◌, ap, arith, ltb, is_some, drop_more, drop-map, cases_Bool, enumerate_from, find, slice_get, option_or, result_err, Order, Reason, Fault, OpenedFile, FileOrder, file_order, opened_beside, opened_beside_as, slots, first_of, is_named, has_entry, chosen_library, file_at, opened, opened_file, opened_files, unit_source, library_fault, library_reason}
+use Rattle.ps_reading.proofs.Vocabulary.{sym, ◌≡◌, ℕ, suc, ◌+◌, ◌<◌, List, [], ◌∷◌, length, get_or, drop, map, Bool, true, false, if◌then◌else◌, Option, Some, None, Ok, Err, Bor, inl, inr, refl, ◌∙◌, ap, arith, ltb, is_some, drop_more, drop-map, cases_Bool, enumerate_from, find, slice_get, option_or, result_err, Order, Reason, Fault, OpenedFile, FileOrder, file_order, opened_beside, opened_beside_as, slots, first_of, is_named, has_entry, chosen_library, file_at, opened, opened_file, opened_files, unit_source, library_fault, library_reason}
 use Rattle.ps_words.specs.declared.fault.Reason.TheVariants as reason
 use Rattle.ps_reading.proofs.FirstSlots.{any_found, neither_first, none_mapped}
 
@@ -76,7 +76,7 @@ abbrev pub chosen_from : Order → List ℕ → List (Bor (List ℕ)) → ℕ
 chosen_from order name libs i = find (λ (lib : ℕ × List ℕ). has_entry order name lib.1)
     (enumerate_from i (drop i (opened order libs)))
 
-pub chosen_here : (order : Order) (name : List ℕ) (libs : List (Bor (List ℕ))) (i j : ℕ)
+chosen_here : (order : Order) (name : List ℕ) (libs : List (Bor (List ℕ))) (i j : ℕ)
     → i < length libs
     → find (is_named order name (opened_file order (get_or libs i no_file).now)) slots ≡ Some j
     → chosen_from order name libs i ≡ Some (i, opened_file order (get_or libs i no_file).now)
@@ -87,6 +87,16 @@ chosen_here order name libs i j lt h =
     ap (λ (xs : List (ℕ × List ℕ)). find
     (λ (lib : ℕ × List ℕ). has_entry order name lib.1) xs) (opened_more order libs i i lt)
     ∙ rw has
+
+-- it is the library at i, where no library before has one
+pub chosen_at : (order : Order) (name : List ℕ) (libs : List (Bor (List ℕ))) {i j : ℕ}
+    → chosen_library order name (opened order libs) ≡ chosen_from order name libs i
+    → i < length libs
+    → Some j ≡ find (is_named order name (opened_file order (get_or libs i no_file).now)) slots
+    → chosen_library order name (opened order libs)
+    ≡ Some (i, opened_file order (get_or libs i no_file).now)
+chosen_at order name libs {i} {j} from lt found =
+    from ∙ chosen_here order name libs i j lt (sym found)
 
 pub chosen_later : (order : Order) (name : List ℕ) (libs : List (Bor (List ℕ))) (i : ℕ)
     → i < length libs → has_entry order name (opened_file order (get_or libs i no_file).now)

@@ -1,3 +1,4 @@
 pub mod EachOnce
 pub mod SlotNames
 pub mod Forms
+pub mod Unopened

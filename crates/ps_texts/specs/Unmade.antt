@@ -25,15 +25,11 @@ IsFirstOf host libs f = IsFirst host libs f × HasItsParts (order_of host) host 
 abbrev pub HasNoNames : Result (List (List ℕ)) Reason → Fault → Type 0
 HasNoNames found f = (why : Reason) × (found ≡ Err why) × (f ≡ in_file 0 why)
 
--- why a file has no such text
-abbrev pub CanRefuseHost : HostText → List ℕ → Fault → Type 0
-CanRefuseHost (of_host.Show form) host f = show_fault host ≡ Some f
-CanRefuseHost of_host.Had host f = HasNoNames (names_had host) f
-
--- why these files are refused: a text in which they have names is made of any files
+-- why these files are refused: a text of the host's file alone is made of each file that can be
+-- shown, and one in which they have names of any files
 abbrev pub CanRefuse : TextKind → List ℕ → List (List ℕ) → Fault → Type 0
 CanRefuse (kind.OfLink what form) host libs f = IsFirstOf host libs f
-CanRefuse (kind.OfHost what) host libs f = CanRefuseHost what host f
+CanRefuse (kind.OfHost what) host libs f = show_fault host ≡ Some f
 CanRefuse kind.Wanted host libs f = HasNoNames (names_wanted host libs) f
 CanRefuse (kind.Named what) host libs f = ⊥
 

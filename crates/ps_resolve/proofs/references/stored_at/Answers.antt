@@ -1,5 +1,5 @@
 use Rattle.std.proofs.Common.{rules}
 use Rattle.ps_resolve.proofs.references.stored_at.Goals as goal
 
-pub returns-else-value : goal.returns-else-value
-returns-else-value c = search rules
+pub returns-else-value-clause-edit : goal.returns-else-value-clause-edit
+returns-else-value-clause-edit c = search rules
