@@ -19,7 +19,7 @@ pub(crate) enum Cause {
         /// The name of its record.
         name: Name,
         /// The index of its record, from 0.
-        record: usize,
+        index: usize,
     },
 }
 

@@ -70,8 +70,8 @@ fn add_record<S: TextWriter>(text: &mut S, form: Form, cause: Cause)
 {
     match cause {
         Cause::Number | Cause::DataSize => add_by_form(text, form, b"", b",\"record\":null"),
-        Cause::Reference { kind, name, record } => {
-            add_reference(text, form, kind, name, record);
+        Cause::Reference { kind, name, index } => {
+            add_reference(text, form, kind, name, index);
         }
     }
 }
