@@ -5,7 +5,8 @@ import pathlib
 import random
 import re
 
-from good_files import SEPRTSEG, Maker, Style
+from good_code import Style
+from good_files import SEPRTSEG, Maker
 
 PAGE = pathlib.Path(__file__).resolve().parent.parent / "docs/FORMAT.md"
 

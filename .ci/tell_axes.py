@@ -8,7 +8,7 @@ import axes
 import tell
 from descriptions import dense
 from descriptions.cases import map_of, summary
-from descriptions.model import file_bytes, laid_out
+from descriptions.model import file_bytes, written
 
 CRASHED = "crashed"
 
@@ -115,7 +115,7 @@ def of_case(case):
 
 def of_description(case):
     """A case that is described, and not yet written."""
-    host, *libraries = (file_bytes(file, laid_out(file)) for file in case.files())
+    host, *libraries = map(written, case.files())
     linked = f"pslink: {case.fault.line()}\n" if case.fault else (
         f"{summary(case)}\n", file_bytes(*case.linked), "".join(f"{line}\n" for line in map_of(case)))
     return Tried(case.name, (host, [libraries[number - 1] for number in case.order_given()]), linked)
