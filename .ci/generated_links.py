@@ -1,7 +1,7 @@
 """Links of generated files: for the scripts beside, which add the folders of the repository to the path."""
 from descriptions.model import (
-    HOSTSEG, LINKED, PRIVREF, PUBLREF, UNITREF, UNITSEG, File, Operand, Procedure, Segment, eof_mark, file_bytes, laid_out,
-    places, priv_ref, publ_def, publ_ref, unit_ref,
+    HOSTSEG, LINKED, PRIVREF, PUBLREF, UNITREF, UNITSEG, File, Operand, Procedure, Segment, eof_mark, places, priv_ref,
+    publ_def, publ_ref, unit_ref, written,
 )
 
 PUBLICS = {"COUNT": 3, "LIMIT": 200, "TOTAL": 1024}
@@ -10,7 +10,7 @@ PRIVATES = {"STATE": 4, "CACHE": 1, "TABLE": 300}
 
 def described(*files):
     """The bytes of files that are described."""
-    return [file_bytes(file, laid_out(file)) for file in files]
+    return [*map(written, files)]
 
 
 def segment_of(numbers, name, kind, units, first=(), next_free=0):

@@ -10,16 +10,25 @@ import sys
 import zipfile
 
 ROOT = pathlib.Path(__file__).resolve().parent.parent
-sys.path[:0] = [str(ROOT / "samples")]
+sys.path[:0] = [str(ROOT / "vectors")]
 import linker
-import make_samples as m
+from descriptions import model as m
+from descriptions.links import code_of, program, wanting
 from damaged_files import changed, hex_dump, macbinary, of_later_release, swapped, uuencoded, volume
 
-SAMPLES = m.SAMPLES
+SAMPLES = {path.name: path.read_bytes() for path in (ROOT / "samples").glob("*.code")}
 HOST, LIBRARY, USING, USED = (SAMPLES[name] for name in ("host.code", "library.code", "using.code", "used.code"))
 BIG_HOST, BIG_LIBRARY = (SAMPLES[f"big_{name}.code"] for name in ("host", "library"))
+HOSTS, LIBRARIES = {"little": HOST, "big": BIG_HOST}, {"little": LIBRARY, "big": BIG_LIBRARY}
 
 CODE, LINKS = 512, 1024  # where the one code of each sample and its link information begin
+NOP, RETURN = "D7", "AD 00"  # instructions
+COUNT, STATE, END = m.publ_ref("COUNT", [1]), m.priv_ref("STATE", 4, [4]), m.eof_mark(0)
+# the program and the unit of the sample pair
+PROGRAM, PROGRAM_LINKS = program().procedures, program().records
+UNIT, UNIT_LINKS = code_of("A5 80 00", "AB 80 02", NOP * 2), [COUNT, STATE, END]
+# a unit that calls procedure 1 of another
+CALLING = code_of("CD 00 01")
 
 
 def word(value):
@@ -30,7 +39,7 @@ def entry(slot, name, kind, address, length):
     """The changes that give a slot this entry."""
     return [
         (4 * slot, word(address) + word(length)),
-        (64 + 8 * slot, m.padded_name(name)),
+        (64 + 8 * slot, m.name_bytes(name)),
         (192 + 2 * slot, word(kind)),
     ]
 
@@ -40,12 +49,35 @@ def slot_of(file, slot):
     return linker.CodeFile(file, 0, "little").slots[slot]
 
 
-def host_with(links, procedures=None):
-    return m.code_file({**m.HOST, 1: m.Segment("DEMO", m.HOSTSEG, procedures or m.PROGRAM, links)})
+def code_file(slots, order="little"):
+    return m.written(m.File(slots, order))
 
 
-def unit_with(links, procedures=None, slot=2):
-    return m.code_file({slot: m.Segment("UTIL", m.UNITSEG, procedures or m.UNIT, links)})
+def unit_named(name, links=UNIT_LINKS, procedures=UNIT):
+    return m.Segment(name, m.UNITSEG, procedures, links)
+
+
+def tools(procedures):
+    """A linked segment."""
+    return m.Segment("TOOLS", m.LINKED, procedures)
+
+
+def host_with(links, procedures=PROGRAM):
+    return code_file(wanting("UTIL", host=m.Segment("DEMO", m.HOSTSEG, procedures, links)))
+
+
+def host_and(slots):
+    """The sample host with more slots."""
+    return code_file(wanting("UTIL") | slots)
+
+
+def unit_with(links, procedures=UNIT, slot=2):
+    return code_file({slot: unit_named("UTIL", links, procedures)})
+
+
+def library_and(slots):
+    """The sample library with more slots."""
+    return code_file({2: unit_named("UTIL"), **slots})
 
 
 def text_library():
@@ -56,20 +88,19 @@ def text_library():
 
 def short_text():
     """A library with a text, whose unit has many bytes 0D in its code and ends the file inside a block."""
-    file = m.code_file({2: m.Segment("OTHER", m.UNITSEG, [m.Procedure(1, ["SLDC 13"] * 40 + ["RNP 0"])], [])})
+    file = code_file({2: unit_named("OTHER", [], code_of("0D" * 40))})
     return changed(file[: m.BLOCK + slot_of(file, 2).length], (224 + 2 * 2, word(1)))
 
 
 def native_host():
     """A host of which a block of code was not read, with the table of procedure 2 in it."""
-    long = [m.Procedure(number, ["NOP"] * 600 + ["RNP 0"]) for number in (2, 3)]
-    return changed(host_with(m.PROGRAM_LINKS, [*long, *m.PROGRAM]), (1024, bytes(512)))
+    long = [m.Procedure([NOP * 600, RETURN], number) for number in (2, 3)]
+    return changed(host_with(PROGRAM_LINKS, [*long, *PROGRAM]), (1024, bytes(512)))
 
 
 def full_host():
     """A host that wants UTIL, and whose other slots from 8 to 15 are filled."""
-    tools = m.Segment("TOOLS", m.LINKED, [m.Procedure(1, ["NOP", "RNP 0"])])
-    return m.code_file({**m.HOST, **{slot: tools for slot in range(8, 16)}})
+    return host_and({slot: tools(code_of(NOP)) for slot in range(8, 16)})
 
 
 def short_unit(code):
@@ -79,7 +110,7 @@ def short_unit(code):
 
 def dead_unit():
     """A library whose unit has 1058 bytes of code, of which those from 512 on before 1024 are E5."""
-    return changed(unit_with([END], [m.Procedure(1, ["NOP"] * 1042 + ["RNP 0"])]), (CODE + 512, b"\xe5" * 512))
+    return changed(unit_with([END], code_of(NOP * 1042)), (CODE + 512, b"\xe5" * 512))
 
 
 def exchanged(file, one, other):
@@ -89,26 +120,24 @@ def exchanged(file, one, other):
 
 def linked_segment(procedures, *changes):
     """A host with a linked segment in slot 9, with other bytes from some places of its code on."""
-    file = m.code_file({**m.HOST, 9: m.Segment("TOOLS", m.LINKED, procedures)})
+    file = host_and({9: tools(procedures)})
     return changed(file, *((m.BLOCK * slot_of(file, 9).address + place, new) for place, new in changes))
 
 
 def with_native(end, level=0):
     """A host with a linked segment of two procedures. The table of the second, from byte 412 of its code on, says that it is native,
     and has the lex level; the bytes from 128 on before the end are zeros."""
-    long = [m.Procedure(1, ["NOP"] * 100 + ["RNP 0"]), m.Procedure(2, ["NOP"] * 290 + ["RNP 0"])]
+    long = [m.Procedure([NOP * 100, RETURN]), m.Procedure([NOP * 290, RETURN], 2)]
     return linked_segment(long, (128, bytes(end - 128)), (412, bytes([0, level])))
 
 
 def beside_native():
     """A library with UTIL, and in slot 5 an assembled entry with two sectors of zeros in its code. Its table is at byte 410."""
-    file = m.code_file({**m.LIBRARY, 5: m.Segment("NATIVE", m.LINKED, [m.Procedure(1, ["NOP"] * 400 + ["RNP 0"])])})
+    file = library_and({5: m.Segment("NATIVE", m.LINKED, code_of(NOP * 400))})
     place = m.BLOCK * slot_of(file, 5).address
     return changed(file, (192 + 2 * 5, b"\4"), (place + 128, bytes(256)), (place + 410, b"\0"))
 
 
-COUNT, STATE = m.publ_ref("COUNT", [1]), m.priv_ref("STATE", 4, [4])
-END = m.eof_mark(0)
 OWN = m.publ_ref("OWN", [1]), m.publ_def("OWN", 1)
 
 
@@ -119,47 +148,47 @@ def past_mark(place, words, value=3, following=8, record=0):
 
 def seven_bits():
     """A unit of 146 bytes without bit 7 of each byte: its length is 18."""
-    procedures = [m.Procedure(1, ["NOP", "RNP 0"]), m.Procedure(2, ["NOP"] * 114 + ["RNP 0"])]
+    procedures = [m.Procedure([NOP, RETURN]), m.Procedure([NOP * 114, RETURN], 2)]
     return bytes(byte & 127 for byte in unit_with([END], procedures))
 
 
 SEVEN = seven_bits()
-LONG = [m.Procedure(1, ["NOP"] * 80 + ["RNP 0"])]
-TWO = [m.Procedure(1, ["NOP", "RNP 0"]), m.Procedure(2, ["NOP", "RNP 0"])]
+LONG = code_of(NOP * 80)
+TWO = [m.Procedure([NOP, RETURN]), m.Procedure([NOP, RETURN], 2)]
 # instructions of which no 64 bytes are those of another place, and the same that come again and again
-MIXED = [f"SLDC {number}" for number in random.Random(39).choices(range(128), k=1500)]
+MIXED = bytes(random.Random(39).choices(range(128), k=1500))
 AGAIN = MIXED[:128] * 6
-AUX_UNIT, OTHER_UNIT = (m.Segment(name, m.UNITSEG, m.UNIT, m.UNIT_LINKS) for name in ("AUX", "OTHER"))
-AUX_FILE = m.code_file({3: AUX_UNIT})
+AUX_UNIT, OTHER_UNIT = (unit_named(name) for name in ("AUX", "OTHER"))
+AUX_FILE = code_file({3: AUX_UNIT})
 TOOL = LIBRARY.replace(b"UTIL", b"TOOL")
 # a host that wants two units of four private words each, and a library that has both
-TWO_WANTED = m.code_file({**m.HOST, 8: m.Segment("AUX", m.UNITSEG, m.WANTED)})
-TWO_UNITS = m.code_file({**m.LIBRARY, 3: AUX_UNIT})
+TWO_WANTED = host_and({8: m.Segment("AUX")})
+TWO_UNITS = library_and({3: AUX_UNIT})
 # the sample pair as it is linked, as far as a dictionary and codes say
-LINKED = m.code_file({1: m.Segment("DEMO", m.LINKED, m.PROGRAM), 7: m.Segment("UTIL", m.LINKED, m.UNIT)})
+LINKED = code_file({1: m.Segment("DEMO", m.LINKED, PROGRAM), 7: m.Segment("UTIL", m.LINKED, UNIT)})
 # a unit that requests a unit without a name, and a library that has both
-BLANK_LIBRARY = m.code_file({2: m.Segment("UTIL", m.UNITSEG, m.USING, [m.unit_ref("", [1]), END]), 3: m.Segment("", m.UNITSEG, m.UNIT, m.UNIT_LINKS)})  # fmt: skip
+BLANK_LIBRARY = code_file({2: unit_named("UTIL", [m.unit_ref("", [1]), END], CALLING), 3: unit_named("")})  # fmt: skip
 
 
 def fitting(count):
     """Procedures from 1 on whose instructions fit."""
-    return [m.Procedure(number, ["NOP", "RNP 0"]) for number in range(1, 1 + count)]
+    return [m.Procedure([NOP, RETURN], number) for number in range(1, 1 + count)]
 
 
 def of_bytes(number, digits):
     """A procedure of these bytes, in hexadecimal digits, and a return."""
-    return m.Procedure(number, [f"BYTES {digits}", "RNP 0"])
+    return m.Procedure([digits, RETURN], number)
 
 
 def long_fitting(count):
     """Procedures from 1 on that are long, and whose instructions fit."""
-    return [m.Procedure(number, ["NOP"] * 59 + ["RNP 0"]) for number in range(1, 1 + count)]
+    return [m.Procedure([NOP * 59, RETURN], number) for number in range(1, 1 + count)]
 
 
 def ordered_pair(order, procedures, links=None):
     """The host of a byte order, and a library with these procedures."""
-    library = m.code_file({2: m.Segment("UTIL", m.UNITSEG, procedures, links or [END])}, order)
-    return (HOST if order == "little" else SAMPLES["big_host.code"]), [library]
+    library = code_file({2: unit_named("UTIL", links or [END], procedures)}, order)
+    return HOSTS[order], [library]
 
 
 # A code that refers to COUNT twice, at bytes 1 and 5, and another with large operands.
@@ -173,26 +202,26 @@ def referring(digits, *links, order="little"):
 
 def with_units_in_place(order, kind):
     """A host with two units in place, the second of this kind."""
-    aux = m.Segment("AUX", kind, m.AUX_IN_PLACE, m.AUX_LINKS)
-    return m.code_file({1: m.DEMO, 7: m.Segment("UTIL", m.UNITSEG, m.UTIL_IN_PLACE, m.UNIT_LINKS), 8: aux}, order)
+    links = [m.unit_ref("UTIL", [1]), m.priv_ref("STATE", 2, [4]), END]
+    aux = m.Segment("AUX", kind, code_of("CD 00 01", "A5 80 01"), links)
+    return code_file({1: program(), 7: unit_named("UTIL", UNIT_LINKS, code_of("A5 80 00", "AB 80 00")), 8: aux}, order)
 
 
 def beside_four(code, slot=2, order="little"):
     """A library with UTIL in a slot, whose code ends with these bytes, and OTHER, whose four procedures fit."""
-    pair = {slot: m.Segment("UTIL", m.UNITSEG, [m.Procedure(1, ["NOP", "RNP 0"])], [END]), 5: m.Segment("OTHER", m.UNITSEG, fitting(4), [END])}
+    pair = {slot: unit_named("UTIL", [END], code_of(NOP)), 5: unit_named("OTHER", [END], fitting(4))}
     place = 4 * slot + (2 if order == "little" else 3)
-    return changed(m.code_file(pair, order), (place, bytes([len(code)])), (CODE, code))
+    return changed(code_file(pair, order), (place, bytes([len(code)])), (CODE, code))
 
 
 def lost_quiet():
     """References of P-code, names and tails of dictionaries of which nothing is found, as in quiet()."""
-    big_host = SAMPLES["big_host.code"]
     count, state = (lambda *places: m.publ_ref("COUNT", places)), (lambda *places: m.priv_ref("STATE", 4, places))
     aux = lambda pair: (pair[0], [*pair[1], USED])
     # comments of 80 characters at 256, 296 and 432, in letters above 127 too, tabs, and what is before 336 and from 432 on
     for at in (256, 296, 432):
         yield changed(HOST, (at, b"(C) THE AUTHOR OF THE PROGRAM" + b" " * 51)), [LIBRARY]
-        yield changed(big_host, (at, b"\xc4\xcf\xcd" * 26 + b"..")), [SAMPLES["big_library.code"]]
+        yield changed(BIG_HOST, (at, b"\xc4\xcf\xcd" * 26 + b"..")), [BIG_LIBRARY]
     yield changed(HOST, (336, b"A" * 40)), [LIBRARY]
     yield changed(HOST, (350, b"\1" * 15 + b"\t\n" * 10)), [LIBRARY]
     yield changed(HOST, (256, b"\x21" * 80), (432, b"\1" * 80)), [LIBRARY]
@@ -201,24 +230,24 @@ def lost_quiet():
     for order in ("little", "big"):
         yield referring(TWICE, count(1, 5), order=order)
         yield with_units_in_place(order, m.UNITSEG), []
-        yield HOST if order == "little" else big_host, [beside_four(bytes([0xD7, 0xD7, 2, 0]), order=order)]
+        yield HOSTS[order], [beside_four(bytes([0xD7, 0xD7, 2, 0]), order=order)]
     yield referring("A9 80 00 AB 80 00", count(1), state(4))
     # a reference to a unit on a constant, and references of files that show no P-code
     yield aux(referring("05 D7 AB 03", m.unit_ref("AUX", [0])))
     yield referring(LARGE, count(1))
     yield HOST, [unit_with([END], [of_bytes(1, TWICE), *fitting(4)[1:]])]
-    yield host_with(m.PROGRAM_LINKS, [of_bytes(2, TWICE), *m.PROGRAM]), [unit_with([END], long_fitting(4))]
+    yield host_with(PROGRAM_LINKS, [of_bytes(2, TWICE), *PROGRAM]), [unit_with([END], long_fitting(4))]
 
 
 def stripped(count):
     """A host with a linked segment of so many bytes and 16, none of them above 127."""
-    file = m.code_file({**m.HOST, 9: m.Segment("TOOLS", m.LINKED, [m.Procedure(1, ["NOP"] * count + ["RNP 0"])])})
+    file = host_and({9: tools(code_of(NOP * count))})
     start = m.BLOCK * slot_of(file, 9).address
     return changed(file, (start, bytes(byte & 127 for byte in file[start:])))
 
 
 # a unit of the other byte order whose bytes are exchanged, but for its name
-EXCHANGED = swapped(unit_with(m.UNIT_LINKS, slot=1)).replace(b"TULI", b"UTIL")
+EXCHANGED = swapped(unit_with(UNIT_LINKS, slot=1)).replace(b"TULI", b"UTIL")
 
 
 LATER_HOST, DISK = of_later_release(HOST), volume(HOST + LIBRARY)
@@ -264,7 +293,7 @@ def faults():
     unit = lambda *changes: [changed(LIBRARY, *changes)]
     near = "differs from UTIL in small letters, high bits or padding alone"
     extent = "bytes of code, from byte"
-    large_demo = m.Segment("DEMO", m.HOSTSEG, [m.Procedure(1, ["NOP", "NOP", "RBP 0"], parameters=4, data=65534)], m.PROGRAM_LINKS)
+    large_demo = program(data=65534)
     cases = [
         (1, HOST, [LIBRARY[:511]], ["  it has 511 bytes, and is no code file of a known form"], again("LIB1")),
         (2, HOST, unit((193, b"\1")), ["  it is no code file of a known form; the host is little-endian"], again("LIB1")),
@@ -282,8 +311,8 @@ def faults():
           for libraries, *more in (([LIBRARY],), ([HOST], "  LIB1 has a host program"))),
         (5, changed(HOST, *entry(3, "OTHER", 1, 1, 18)), [LIBRARY], ["  segment OTHER, of slot 03 of the host", "  the earlier one is slot 01, DEMO", "note: HOST, segment OTHER: its code has segment number 1, and its slot is 3: the code may be another one", "warning: HOST, segment OTHER: its bytes in the file overlap those of slot 01"]),
         (3, swapped(HOST), [LIBRARY], ["  it is little-endian; the host is big-endian", "note: HOST: it may be a code file whose bytes are exchanged in pairs"], "  Exchange the bytes again: dd conv=swab if=HOST of=FILE. Then give FILE."),
-        (4, m.code_file({2: m.Segment("UTIL", m.UNITSEG, m.UNIT, m.UNIT_LINKS), 9: m.Segment("TOOLS", m.LINKED, LONG)}), [], ["  it has units, and no host program"], "  Give the compiled program as the host, and HOST after it, as a library."),
-        (6, m.code_file({**m.HOST, 7: m.Segment("UTIL", m.UNITSEG, m.UNIT, m.UNIT_LINKS), 8: m.Segment("AUX", m.UNITSEG, m.WANTED), 9: m.Segment("UTIL", m.UNITSEG, m.WANTED)}), [AUX_FILE], ["  segment UTIL, of slot 09 of the host", "  the earlier one is slot 07, UTIL"]),
+        (4, library_and({9: tools(LONG)}), [], ["  it has units, and no host program"], "  Give the compiled program as the host, and HOST after it, as a library."),
+        (6, host_and({7: unit_named("UTIL"), 8: m.Segment("AUX"), 9: m.Segment("UTIL")}), [AUX_FILE], ["  segment UTIL, of slot 09 of the host", "  the earlier one is slot 07, UTIL"]),
         (6, changed(HOST, *entry(8, "UTIL", 3, 0, 0)), [LIBRARY], ["  segment UTIL, of slot 08 of the host", "  the earlier one is slot 07, UTIL"]),
         # an earlier unit whose name begins with the same letter
         (6, changed(HOST, *entry(2, "UAUX", 3, 0, 0), *entry(8, "UTIL", 3, 0, 0)), [LIBRARY], ["  segment UTIL, of slot 08 of the host", "  the earlier one is slot 07, UTIL"]),
@@ -301,7 +330,7 @@ def faults():
         (13, HOST, [], [UTIL, "  no library is given"], *WANTED),
         (13, HOST, [LIBRARY.replace(b"UTIL", b"util")], [UTIL, f"  LIB1 has util (which {near})", "note: LIB1: the name util has small letters, and other names have capitals: it may not be found"], *WANTED),
         (13, HOST, [LIBRARY.replace(b"UTIL    ", b"UTIL\0\0\0\0")], [UTIL, f'  LIB1 has "UTIL\\x00\\x00\\x00\\x00" (which {near})', 'note: LIB1: the name "UTIL\\x00\\x00\\x00\\x00" is padded with zeros where blanks are expected: it may not be found'], *WANTED),
-        (13, HOST, [m.code_file({3: AUX_UNIT, 5: OTHER_UNIT}), m.code_file({1: m.Segment("DEMO", m.LINKED, m.PROGRAM)})], [UTIL, "  LIB1 has AUX, OTHER", "  LIB2 has no unit"], *WANTED),
+        (13, HOST, [code_file({3: AUX_UNIT, 5: OTHER_UNIT}), code_file({1: m.Segment("DEMO", m.LINKED, PROGRAM)})], [UTIL, "  LIB1 has AUX, OTHER", "  LIB2 has no unit"], *WANTED),
         (13, HOST, [bytes(2048), LIBRARY.replace(b"UTIL", b"TOOL")], [UTIL, "  LIB1 is a file of the byte 00 alone", "  LIB2 has TOOL"], WANTED[0], "  Copy LIB1 again: nothing of the code file is in it."),
         # the first library that is no code file is not always the first one; what a library only wants it has not
         (13, HOST, [TOOL, bytes(2048)], [UTIL, "  LIB1 has TOOL", "  LIB2 is a file of the byte 00 alone"], WANTED[0], "  Copy LIB2 again: nothing of the code file is in it."),
@@ -332,7 +361,7 @@ def faults():
         (18, native_host(), [LIBRARY], [DEMO, "  the table of procedure 2 has the number 0, native code", "  bytes 512 to 1023 of its code are all 00: they may not have been read"], *NOT_READ),
         (18, swapped(HOST), [swapped(LIBRARY)], ["  it is a code file whose bytes are exchanged in pairs", "note: LIB1: it may be a code file whose bytes are exchanged in pairs"], *NO_CODE, "  Exchange the bytes again: dd conv=swab if=HOST of=FILE. Then give FILE."),
         # a library whose bytes are exchanged, of a host that is a code file
-        (18, SAMPLES["big_host.code"], [EXCHANGED], ["  segment UTIL, of slot 07 of the host", "  the table of procedure 1 has the number 0, native code"], "  The bytes of the code are exchanged in pairs.", "  Exchange the bytes again: dd conv=swab if=LIB1 of=FILE. Then give FILE."),
+        (18, BIG_HOST, [EXCHANGED], ["  segment UTIL, of slot 07 of the host", "  the table of procedure 1 has the number 0, native code"], "  The bytes of the code are exchanged in pairs.", "  Exchange the bytes again: dd conv=swab if=LIB1 of=FILE. Then give FILE."),
         (19, HOST, [LIBRARY[:1103]], [UTIL, f"  record 2: 15 {LEFT}"]),
         (20, HOST, unit((LINKS + 8, b"\x0f")), [UTIL, f"  record 0: type 15, and its word A is 2; 512 {LEFT}"]),
         (20, HOST, [changed(LIBRARY[: LINKS + 16], (LINKS + 8, b"\x0f"))], [UTIL, f"  record 0: type 15, and its word A is 2; 16 {LEFT}"]),
@@ -343,25 +372,25 @@ def faults():
         # words of records in the other byte order
         (20, BIG_HOST, [changed(BIG_LIBRARY, (LINKS + 8, b"\0\x0f"))], [UTIL, f"  record 0: type 15, and its word A is 2; 512 {LEFT}"]),
         (23, BIG_HOST, [changed(BIG_LIBRARY, (LINKS + 32 + 10, b"\0\1"))], [UTIL, f"  record 1: type 4, and its word A is 1; 480 {LEFT}"]),
-        (24, host_with([m.publ_def("COUNT", 3), m.record("COUNT", 8, 1), m.eof_mark(8)]), [LIBRARY], [DEMO, "  record 1: CONSTDEF COUNT", "  the earlier one is record 0: PUBLDEF COUNT"]),
+        (24, host_with([m.publ_def("COUNT", 3), m.const_def("COUNT", 1), m.eof_mark(8)]), [LIBRARY], [DEMO, "  record 1: CONSTDEF COUNT", "  the earlier one is record 0: PUBLDEF COUNT"]),
         (25, HOST, [unit_with([STATE, m.priv_ref("STATE", 1, []), END])], [UTIL, "  record 1: PRIVREF STATE", "  the earlier one is record 0: PRIVREF STATE"]),
         (26, HOST, [unit_with([m.priv_ref("FIRST", 2, []), m.priv_ref("STATE", 32758, []), END])], [UTIL, "  record 1: PRIVREF STATE", "  it takes 32758 words from base offset 10 on"]),
-        (27, m.code_file({**m.HOST, 1: large_demo}), [LIBRARY], [DEMO, "  the program's own data have 65534 bytes, and the private variables 8", "warning: HOST, segment DEMO: the end mark 8 is below half the data size of 65534 bytes"]),
+        (27, host_and({1: large_demo}), [LIBRARY], [DEMO, "  the program's own data have 65534 bytes, and the private variables 8", "warning: HOST, segment DEMO: the end mark 8 is below half the data size of 65534 bytes"]),
         # a private variable of the last slot, and a data size in the other byte order
-        *((27, m.code_file({1: large_demo, 15: m.Segment("UTIL", m.UNITSEG, m.WANTED)}, order), [library], [DEMO, "  the program's own data have 65534 bytes, and the private variables 8", "warning: HOST, segment DEMO: the end mark 8 is below half the data size of 65534 bytes"])
-          for order, library in (("little", LIBRARY), ("big", BIG_LIBRARY))),
+        *((27, code_file({1: large_demo, 15: m.Segment("UTIL")}, order), [library], [DEMO, "  the program's own data have 65534 bytes, and the private variables 8", "warning: HOST, segment DEMO: the end mark 8 is below half the data size of 65534 bytes"])
+          for order, library in LIBRARIES.items()),
         (28, HOST, [unit_with([m.publ_ref("Count", [1]), END])], [UTIL, "  record 0: PUBLREF Count", "  the host has PUBLDEF COUNT, record 0", "note: LIB1, segment UTIL, record 0: the name Count has small letters, and other names have capitals: it may not be found"]),
         (28, HOST, [unit_with([m.publ_ref("OTHER", [1]), END]), LIBRARY, LIBRARY], [UTIL, "  record 0: PUBLREF OTHER"]),
         (28, HOST, [unit_with([m.publ_ref("OWN", [1]), m.publ_def("OWN", 1), END])], [UTIL, "  record 0: PUBLREF OWN", "  the unit itself has a PUBLDEF of it, record 1, which is not used: the host program has to define it", "warning: LIB1, segment UTIL, record 1: the unit refers to OWN and defines it itself: only the host program defines variables"]),
         # a definition of nearly the name is any record of the host; a unit's constant is no variable
         (28, host_with([m.publ_def("OTHER", 3), m.publ_def("COUNT", 4), m.eof_mark(8)]), [unit_with([m.publ_ref("Count", [1]), END])], [UTIL, "  record 0: PUBLREF Count", "  the host has PUBLDEF COUNT, record 1", "note: LIB1, segment UTIL, record 0: the name Count has small letters, and other names have capitals: it may not be found"]),
-        (28, HOST, [unit_with([m.publ_ref("OWN", [1]), m.record("OWN", 8, 1), END])], [UTIL, "  record 0: PUBLREF OWN"]),
+        (28, HOST, [unit_with([m.publ_ref("OWN", [1]), m.const_def("OWN", 1), END])], [UTIL, "  record 0: PUBLREF OWN"]),
         # names that differ in one letter: at most four, and no constant of a unit
         (28, HOST, [unit_with([m.publ_ref("COUNTS", [1]), END])], [UTIL, "  record 0: PUBLREF COUNTS", "  the host has PUBLDEF COUNT, record 0"]),
         (28, HOST, [unit_with([m.publ_ref("COUNTER", [1]), END])], [UTIL, "  record 0: PUBLREF COUNTER"]),
         (28, host_with([*(m.publ_def(f"X{k}", k) for k in range(1, 7)), m.eof_mark(8)]), [unit_with([m.publ_ref("X0", [1]), END])], [UTIL, "  record 0: PUBLREF X0", *(f"  the host has PUBLDEF X{k}, record {k - 1}" for k in range(1, 5))]),
-        (29, host_with([m.publ_def("COUNTS", 3), m.record("COUNT", 8, 3), m.eof_mark(8)]), [LIBRARY], [UTIL, "  record 0: PUBLREF COUNT", "  the host has CONSTDEF COUNT, record 1"]),
-        (29, host_with([m.record("COUNT", 8, 3), m.eof_mark(8)]), [LIBRARY], [UTIL, "  record 0: PUBLREF COUNT", "  the host has CONSTDEF COUNT, record 0"]),
+        (29, host_with([m.publ_def("COUNTS", 3), m.const_def("COUNT", 3), m.eof_mark(8)]), [LIBRARY], [UTIL, "  record 0: PUBLREF COUNT", "  the host has CONSTDEF COUNT, record 1"]),
+        (29, host_with([m.const_def("COUNT", 3), m.eof_mark(8)]), [LIBRARY], [UTIL, "  record 0: PUBLREF COUNT", "  the host has CONSTDEF COUNT, record 0"]),
         (31, HOST, [unit_with([m.publ_ref("COUNT", [1, 23]), END])], [UTIL, "  record 0: PUBLREF COUNT", "  reference 1: byte 23 of the code, where these bytes stand: 01", "  the code has 24 bytes"]),
         (31, HOST, [unit_with([m.publ_ref("COUNT", [24]), END])], [UTIL, "  record 0: PUBLREF COUNT", "  reference 0: byte 24 of the code, where these bytes stand: none", "  the code has 24 bytes"]),
         (32, HOST, [unit_with([m.publ_ref("COUNT", [9]), END])], [UTIL, "  record 0: PUBLREF COUNT", "  reference 0: byte 9 of the code, where these bytes stand: 00 00", "  it lies in the table of procedure 1", "note: LIB1, segment UTIL, record 0: the operand at byte 9 may be damaged: its bit 7 is clear, and a compiler sets it"]),
@@ -374,8 +403,8 @@ def faults():
         (33, HOST, [unit_with([m.publ_ref("COUNT", [4, 1, 1]), END])], [UTIL, "  record 0: PUBLREF COUNT", "  reference 2: byte 1 of the code, where these bytes stand: 80 00", "  the earlier one is reference 1 of record 0, COUNT"]),
         (34, HOST, unit((CODE + 1, b"\xff\xfd")), [UTIL, "  record 0: PUBLREF COUNT", "  reference 0: byte 1 of the code, where these bytes stand: FF FD", "  its displacement is 32765, and the value 3", past_mark(1, 32765)], SMALLER),
         # what cannot be read is not told of: the end mark of a host, and what it defines behind such a record
-        (20, host_with([m.publ_def("COUNT", 3), m.record("COUNT", 15, 2), m.eof_mark(4)]), [LIBRARY], [DEMO, f"  record 1: type 15, and its word A is 2; 496 {LEFT}"]),
-        (20, host_with([m.record("OTHER", 15, 2), m.publ_def("OWN", 3), m.eof_mark(8)]), [unit_with([*OWN, END])], [DEMO, f"  record 0: type 15, and its word A is 2; 512 {LEFT}", "harmless: LIB1, segment UTIL, record 1: the unit defines OWN, which has no effect: only the host program defines variables"]),
+        (20, host_with([m.publ_def("COUNT", 3), m.Record("COUNT", 15, [2]), m.eof_mark(4)]), [LIBRARY], [DEMO, f"  record 1: type 15, and its word A is 2; 496 {LEFT}"]),
+        (20, host_with([m.Record("OTHER", 15, [2]), m.publ_def("OWN", 3), m.eof_mark(8)]), [unit_with([*OWN, END])], [DEMO, f"  record 0: type 15, and its word A is 2; 512 {LEFT}", "harmless: LIB1, segment UTIL, record 1: the unit defines OWN, which has no effect: only the host program defines variables"]),
         # a definition that is missed behind one that is not
         (28, HOST, [unit_with([m.publ_def("MORE", 1), *OWN, m.publ_def("OTHER", 1), END])], [UTIL, "  record 1: PUBLREF OWN", "  the unit itself has a PUBLDEF of it, record 2, which is not used: the host program has to define it",
          "warning: LIB1, segment UTIL, record 2: the unit refers to OWN and defines it itself: only the host program defines variables",
@@ -468,15 +497,14 @@ INTO = "B9 01 CA 05 CC 01"
 
 
 def with_run(start, end, byte, links=None):
-    unit = unit_with(links or [END], [m.Procedure(1, ["NOP"] * 1030 + ["RNP 0"])])
+    unit = unit_with(links or [END], code_of(NOP * 1030))
     return changed(unit, (CODE + start, bytes([byte]) * (end - start)))
 
 
 def numbered(order, *words, file=None):
     """The library of a byte order, and numbers of II.1 in it: the slot, the high byte of its word, and the segment number."""
-    name = "library.code" if order == "little" else "big_library.code"
     halves = lambda high, low: bytes([low, high] if order == "little" else [high, low])
-    return changed(file or SAMPLES[name], *((256 + 2 * slot, halves(high, low)) for slot, high, low in words))
+    return changed(file or LIBRARIES[order], *((256 + 2 * slot, halves(high, low)) for slot, high, low in words))
 
 
 def blank_slot(name, kind):
@@ -486,21 +514,21 @@ def blank_slot(name, kind):
 
 def two_segments(others):
     """A library with a procedure in UTIL whose instructions do not fit, beside so many that do; eight more are in OTHER."""
-    own = m.Segment("UTIL", m.UNITSEG, [*long_fitting(others), of_bytes(1 + others, INTO)], [END])
-    return m.code_file({2: own, 5: m.Segment("OTHER", m.UNITSEG, long_fitting(8), [END])})
+    own = unit_named("UTIL", [END], [*long_fitting(others), of_bytes(1 + others, INTO)])
+    return code_file({2: own, 5: unit_named("OTHER", [END], long_fitting(8))})
 
 
 def warnings():
     """For each finding: the lines, the host and its libraries."""
     in_unit, in_host = "LIB1, segment UTIL", "HOST, segment DEMO"
     unit = lambda *changes: [changed(LIBRARY, *changes)]
-    plain = m.code_file({**m.HOST, 9: m.Segment("TOOLS", m.LINKED, LONG)})
-    tools = plain[4 * 9] * 512
-    mixed = unit_with([END], [m.Procedure(1, [*MIXED, "RNP 0"])])
-    long = m.Segment("LONG", m.LINKED, [m.Procedure(1, [*MIXED[:900], "RNP 0"])])
-    linked = m.code_file({**m.HOST, 8: long, 9: m.Segment("TOOLS", m.LINKED, [m.Procedure(1, [*MIXED[900:1400], "RNP 0"])])})
+    plain = host_and({9: tools(LONG)})
+    start, length = (slot_of(plain, 9).address * m.BLOCK, slot_of(plain, 9).length)
+    mixed = unit_with([END], code_of(MIXED))
+    long = m.Segment("LONG", m.LINKED, code_of(MIXED[:900]))
+    linked = host_and({8: long, 9: tools(code_of(MIXED[900:1400]))})
     small = "the name util has small letters, and other names have capitals: it may not be found"
-    spelled = m.code_file({2: m.Segment("UTIL", m.UNITSEG, m.USING, [m.unit_ref("util", [1]), END]), 3: m.Segment("util", m.UNITSEG, m.UNIT, m.UNIT_LINKS)})
+    spelled = code_file({2: unit_named("UTIL", [m.unit_ref("util", [1]), END], CALLING), 3: unit_named("util")})
     lost = lambda name, kind, slot=7: f"warning: HOST: slot {slot:02} has the name {name}, kind {kind} and no code: no segment is linked there"
     misfit = lambda number: f"note: {in_unit}: procedure {number} may be damaged: its instructions do not fit together, as those of the others do"
     exchange = lambda found, slot: f"its code has segment number {found}, and that of slot {found} has {slot}: the two may be exchanged"
@@ -514,8 +542,8 @@ def warnings():
     overlap = "warning: LIB1, segment OTHER: its bytes in the file overlap those of slot 02"
     clear = lambda place: f"note: {in_unit}, record 0: the operand at byte {place} may be damaged: its bit 7 is clear, and a compiler sets it"
     three = unit_with([END], fitting(3))
-    end = tools + len(m.segment_bytes(9, LONG, word))
-    other = lambda *links: [m.code_file({**m.LIBRARY, 5: m.Segment("OTHER", m.UNITSEG, m.UNIT, links)})]
+    end = start + length
+    other = lambda *links: [library_and({5: unit_named("OTHER", links)})]
     narrow = unit_with([COUNT, m.priv_ref("STATE", 1, [4]), END])
     taken = lambda name: f"warning: LIB2, segment AUX: it is added in slot 08, which the host has for {name}: calls of {name} go to it"
     return [
@@ -554,7 +582,7 @@ def warnings():
         ([lost('"\\x00\\x00\\x00\\x00\\x00\\x00\\x00\\x00"', 1, 8)], blank_slot(bytes(8), 1), [LIBRARY]),
         ([overlap], HOST, unit(*entry(5, "OTHER", 0, 1, 24))),
         ([f"note: LIB1, segment OTHER: {no_end}", overlap], HOST, unit(*entry(5, "OTHER", 0, 2, 24))),
-        (["note: HOST, segment TOOLS: each byte of its code is D7: it may never have been written"], changed(plain, (tools, b"\xd7" * len(m.segment_bytes(9, LONG, word)))), [LIBRARY]),
+        (["note: HOST, segment TOOLS: each byte of its code is D7: it may never have been written"], changed(plain, (start, b"\xd7" * length)), [LIBRARY]),
         ([f"note: {in_unit}: each byte of its code is 00: it may never have been written"], HOST, [short_unit(bytes(16))]),
         *(([f"note: {in_unit}: {all_one(start, end, byte)}"], HOST, [with_run(start, end, byte)]) for start, end, byte in runs()[0]),
         # zeros of a linked segment with a native procedure whose table is among them, also where it is the last of them
@@ -570,7 +598,7 @@ def warnings():
         ([zeros], HOST, [short_unit(b"\xd7" * 14 + bytes(2))]),
         # a unit that has more bytes than one without procedures, and the number of another slot
         ([f"note: {in_unit}: {no_end}"], HOST, unit((CODE + 22, b"\x09\0"))),
-        *(([f"note: {in_unit}: {no_end}"], HOST if order == "little" else SAMPLES["big_host.code"], [beside_four(b"\xd7" * 14 + bytes([3, 0]), order=order)]) for order in ("little", "big")),
+        *(([f"note: {in_unit}: {no_end}"], HOSTS[order], [beside_four(b"\xd7" * 14 + bytes([3, 0]), order=order)]) for order in HOSTS),
         ([f"note: {in_host}: its code has segment number 9, and its slot is 1: the code may be another one"], changed(HOST, (CODE + 16, b"\x09")), [LIBRARY]),
         # two entries of a host whose addresses are exchanged, or whose codes have the number of the other: at the first of them
         ([f"note: HOST, segment LONG: {exchange(9, 8)}"], exchanged(linked, 8, 9), [LIBRARY]),
@@ -578,7 +606,7 @@ def warnings():
         # the numbers that a dictionary of II.1 has of its segments: each slot with code has a word with a number or P-code
         ([f"note: {in_unit}: {other_info(2, 3)}"], HOST, unit((260, b"\3"))),
         *(([f"note: {in_unit}: {other_info(2, 3)}"], host, [numbered(order, (2, high, 3))])
-          for order, host, machine in (("little", HOST, 2), ("big", SAMPLES["big_host.code"], 1)) for high in (machine, 0x20 | machine, 0x40 | machine)),
+          for order, host, machine in (("little", HOST, 2), ("big", BIG_HOST, 1)) for high in (machine, 0x20 | machine, 0x40 | machine)),
         ([f"note: HOST, segment TOOLS: {other_info(9, 31)}"], numbered("little", (1, 2, 1), (9, 2, 31), file=plain), [LIBRARY]),
         ([f"note: {in_unit}: the attribute table of procedure 2 says that it is procedure 3: the code may be damaged"], HOST, [changed(unit_with([END], TWO), (CODE + 26, b"\3"))]),
         # a jump into an instruction
@@ -630,17 +658,17 @@ def quiet():
     names = [b"DEMO", b"UTIL", b"COUNT", b"STATE"]
     small = lambda file: re.sub(b"|".join(names), lambda found: found[0].lower(), file)
     machine = lambda file: changed(file, *((257 + 2 * slot, b"\x42") for slot in range(16)))
-    nothing, big_host = [m.Procedure(1, ["NOP", "RNP 0"])], SAMPLES["big_host.code"]
-    once = m.Segment("ONCE", m.LINKED, [m.Procedure(1, [*MIXED[:400], "RNP 0"])])
-    same = m.code_file({**m.HOST, 9: once, 10: once})
+    nothing = code_of(NOP)
+    once = m.Segment("ONCE", m.LINKED, code_of(MIXED[:400]))
+    same = host_and({9: once, 10: once})
     same = changed(same, (m.BLOCK * slot_of(same, 10).address + 400 + 14, b"\x09"))
-    plain = m.code_file({**m.HOST, 9: m.Segment("TOOLS", m.LINKED, LONG)})
-    crossed = m.code_file({**m.LIBRARY, 5: OTHER_UNIT})
+    plain = host_and({9: tools(LONG)})
+    crossed = library_and({5: OTHER_UNIT})
     unit = lambda *changes: [changed(LIBRARY, *changes)]
-    other = lambda *links: [m.code_file({**m.LIBRARY, 5: m.Segment("OTHER", m.UNITSEG, m.UNIT, links)})]
+    other = lambda *links: [library_and({5: unit_named("OTHER", links)})]
     return [
         *((SAMPLES[host], [SAMPLES[name] for name in libraries]) for host, *libraries in pairs),
-        (HOST, [unit_with(m.UNIT_LINKS, slot=9)]),
+        (HOST, [unit_with(UNIT_LINKS, slot=9)]),
         (HOST, [text_library()]),
         (HOST, [changed(LIBRARY, (CODE + 22, b"\x09"))]),
         # units without procedures, of four bytes and of as many as no procedure has
@@ -660,7 +688,7 @@ def quiet():
         # less than 32 line ends
         *((HOST, [changed(LIBRARY, (600, line * 31))]) for line in (b"\r\n", b"\n", b"\r")),
         # texts of blanks, and of no operation
-        *((HOST, [changed(unit_with([END], [m.Procedure(1, ["NOP"] * 1030 + ["RNP 0"])]), (640, bytes([byte]) * 128))]) for byte in (0x20, 0xD7)),
+        *((HOST, [changed(unit_with([END], code_of(NOP * 1030)), (640, bytes([byte]) * 128))]) for byte in (0x20, 0xD7)),
         (HOST, [changed(unit_with([END], nothing), (LINKS, bytes(16)))]),
         (small(HOST), [small(LIBRARY)]),
         (HOST, [LIBRARY[:1104]]),
@@ -672,16 +700,16 @@ def quiet():
         (small(HOST), [changed(small(LIBRARY), (64 + 8 * 5, b"OLD"))]),
         (stripped(46), [LIBRARY]),
         (same, [LIBRARY]),
-        *((HOST, [unit_with([END], [m.Procedure(1, [*["NOP"] * before, *body, "RNP 0"])])]) for before, body in ((0, AGAIN), (3, AGAIN), (0, MIXED[:32] * 40))),
+        *((HOST, [unit_with([END], code_of(NOP * before, body))]) for before, body in ((0, AGAIN), (3, AGAIN), (0, MIXED[:32] * 40))),
         (changed(HOST + bytes(1024), (1536, LIBRARY[512:1024] * 2)), [LIBRARY]),
-        (HOST, [changed(m.code_file({**m.LIBRARY, 5: OTHER_UNIT}), (CODE + 22, b"\5"))]),
+        (HOST, [changed(library_and({5: OTHER_UNIT}), (CODE + 22, b"\5"))]),
         (host_with([m.publ_def("COUNT", 3), m.eof_mark(5)]), [LIBRARY]),
         # later libraries with the unit, and many
-        (HOST, [LIBRARY, *(unit_with(m.UNIT_LINKS, slot=slot) for slot in (5, 9))]),
+        (HOST, [LIBRARY, *(unit_with(UNIT_LINKS, slot=slot) for slot in (5, 9))]),
         (HOST, [LIBRARY] * 4),
         (HOST, [USING, USED, *[LIBRARY] * 30]),
         (HOST, [USING, USED, AUX_FILE, AUX_FILE]),
-        (HOST, [LIBRARY, m.code_file({3: AUX_UNIT, 7: m.Segment("UTIL", m.UNITSEG, m.WANTED)})]),
+        (HOST, [LIBRARY, code_file({3: AUX_UNIT, 7: m.Segment("UTIL")})]),
         *lost_quiet(),
         # runs that are too short, or begin and end within a sector
         *((HOST, [with_run(start, end, byte)]) for start, end, byte in runs()[1]),
@@ -692,12 +720,12 @@ def quiet():
         # units that the link does not take and by which one that takes them is refused
         *((HOST, unit(*entry(5, "OTHER", kind, address, length))) for kind, address, length in ((3, 9, 24), (3, 9, 23), (4, 0, 24))),
         *((HOST, [changed(other(END)[0], (CODE + 1024 + place, byte))]) for place, byte in ((23, b"\xc8"), (18, b"\0"))),
-        (HOST, other(COUNT, m.record("COUNT", 15, 1), END)),
+        (HOST, other(COUNT, m.Record("COUNT", 15, [1]), END)),
         # a code without a byte above 127
         (stripped(48), [LIBRARY]),
         # files of which no end mark is read: cut in the link information, and another program with what is not supported
         (HOST, [LIBRARY, HOST[: LINKS + 16]]),
-        *((HOST, [LIBRARY, host_with([m.publ_def("COUNT", 3), m.record("NATIVE", kind, 1), m.eof_mark(8)])]) for kind in (5, 9, 11)),
+        *((HOST, [LIBRARY, host_with([m.publ_def("COUNT", 3), m.Record("NATIVE", kind, [1]), m.eof_mark(8)])]) for kind in (5, 9, 11)),
         # a public variable without words at the end mark, and the last word below it
         (host_with([m.publ_def("COUNT", 8), m.eof_mark(8)]), [LIBRARY]),
         (HOST, unit((CODE + 2, b"\4"))),
@@ -707,7 +735,7 @@ def quiet():
         *((HOST, unit(*entry(5, "OTHER", kind, 1, 24))) for kind in (2, 4)),
         # operands of two bytes of a unit without references: two, and more of one byte; and more records behind a mark of zeros
         (HOST, [unit_with([END], [of_bytes(1, "A5 80 00 A9 05 AB 81 02 A5 7F")])]),
-        (HOST, [changed(unit_with([m.record("", 0, 0), COUNT, STATE]), (LINKS, bytes(16)))]),
+        (HOST, [changed(unit_with([m.Record("", 0, [0]), COUNT, STATE]), (LINKS, bytes(16)))]),
         # an odd data size alone, and an entry outside the code alone
         *((changed(HOST, (CODE + at, b"\x0d")), [LIBRARY]) for at in (4, 10)),
         # names in small letters, and a control byte in the name of an end mark
@@ -717,10 +745,10 @@ def quiet():
         # zeros of a separate segment without a native procedure
         (HOST, [changed(beside_native(), (m.BLOCK * slot_of(beside_native(), 5).address + 410, b"\1"))]),
         # more than 16 bytes before two equal sectors repeat, and less than 64
-        (HOST, [unit_with([END], [m.Procedure(1, [*["NOP"] * 96, *MIXED[96:128], *MIXED[:128], *MIXED[:128], *MIXED[200:700], "RNP 0"])])]),
+        (HOST, [unit_with([END], code_of(NOP * 96, MIXED[96:128], MIXED[:128], MIXED[:128], MIXED[200:700]))]),
         # units without a procedure that have more bytes, and the number of their slot or none
         (HOST, unit((CODE + 23, b"\0"))),
-        *((HOST if order == "little" else big_host, [beside_four(b"\xd7" * 14 + bytes([2, 0]), order=order)]) for order in ("little", "big")),
+        *((HOSTS[order], [beside_four(b"\xd7" * 14 + bytes([2, 0]), order=order)]) for order in HOSTS),
         (HOST, [beside_four(b"\xd7" * 14 + bytes(2), slot=0)]),
         # codes of a library with the numbers of one another
         (HOST, [exchanged(crossed, 2, 5)]),
@@ -732,7 +760,7 @@ def quiet():
         # large a number; or one of a slot without code is not 0; or the number is right
         (changed(plain, (256 + 18, b"\x1f\x02")), [LIBRARY]),
         *((host, [numbered(order, *words)])
-          for order, host, machine in (("little", HOST, 2), ("big", big_host, 1))
+          for order, host, machine in (("little", HOST, 2), ("big", BIG_HOST, 1))
           for words in ([(2, 3 - machine, 3)], [(2, 0x47, 3)], [(2, 0x10 | machine, 3)], [(2, machine, 32)], [(2, machine, 3), (3, 0, 1)], [(2, machine, 3), (3, machine, 0)], [(2, machine, 2)], [(2, machine, 0)])),
         (changed(HOST, (259, b"\x47")), unit((261, b"\x41"))),
         (changed(HOST, (258, b"\1\x42")), unit((260, b"\2\7"), (286, b"\x1f\xef"))),

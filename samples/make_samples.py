@@ -203,11 +203,6 @@ def segment_code(number, segment, word):
     return code
 
 
-def segment_bytes(number, procedures, word):
-    """The code of a segment without variables of its own."""
-    return bytes(segment_code(number, Segment("", LINKED, procedures), word).bytes)
-
-
 # Link information ----------------------------------------------------------------------------------------------------
 
 
@@ -415,18 +410,11 @@ VOLUMES = {"disk.po": volume("DISK", 280, {"HOST.CODE": SAMPLES["host.code"], "L
 
 # Files elsewhere in the repository: the host with UTIL in it, with which the tests run the program.
 UNIT = [Procedure(1, ["LAO BIG 0", "SRO BIG 2", "NOP", "NOP", "RNP 0"])]
-UNIT_LINKS = [publ_ref("COUNT", [1]), priv_ref("STATE", 4, [4]), eof_mark(0)]
 ELSEWHERE = {
     "crates/ps_linker/data/host.code": code_file(
         {1: DEMO, 7: Segment("UTIL", UNITSEG, UNIT, [publ_ref("COUNT", [1]), eof_mark(0)])}, tail=TAIL
     ),
 }
-
-# Parts that tests put together otherwise, with operands and references as numbers
-USING = [Procedure(1, ["CXP 0 1", "RNP 0"])]
-UTIL_IN_PLACE = [Procedure(1, ["LAO BIG 0", "SRO BIG 0", "RNP 0"])]
-AUX_IN_PLACE = [Procedure(1, ["CXP 0 1", "LAO BIG 1", "RNP 0"])]
-AUX_LINKS = [unit_ref("UTIL", [1]), priv_ref("STATE", 2, [4]), eof_mark(0)]
 
 
 def main():

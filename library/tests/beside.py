@@ -4,6 +4,7 @@ files of .ci/damage; the sets of files of .ci/report, of those that it generates
 and the longest linked file, 500 libraries, a fault in library 300, and a map and a show of more than 64 KiB, whose answers are worked out
 here too. Leaves these files in FOLDER, for .ci/library to measure. Prints what is otherwise.
 Usage: beside.py PSLINK PROGRAM LINKED FOLDER: the program, program.c as it was built, and to what the sample pair is linked"""
+import dataclasses
 import json
 import pathlib
 import runpy
@@ -11,15 +12,17 @@ import sys
 
 ROOT = pathlib.Path(__file__).resolve().parents[2]
 sys.dont_write_bytecode = True
-sys.path[:0] = [str(ROOT / name) for name in ("library/tests", "bench", "samples", ".ci")]
+sys.path[:0] = [str(ROOT / name) for name in ("library/tests", "vectors", ".ci")]
 PSLINK, PROGRAM, LINKED, FOLDER = (pathlib.Path(path).resolve() for path in sys.argv[1:5])
-import large_files as large  # noqa: E402
-import make_samples  # noqa: E402
 import program  # noqa: E402
 from commands import Commands  # noqa: E402
+from descriptions import model as m  # noqa: E402
+from descriptions.links import program as host_program, unit_of, wanting  # noqa: E402
 
-HOST, LIBRARY = make_samples.SAMPLES["host.code"], make_samples.SAMPLES["library.code"]
-LONGEST_CODE = 64 * large.BLOCK - 2
+SAMPLES = {path.stem: path.read_bytes() for path in (ROOT / "samples").glob("*.code")}
+HOST, LIBRARY = SAMPLES["host"], SAMPLES["library"]
+LONGEST_CODE = 64 * m.BLOCK - 2
+OPERANDS = 32_000
 SOME = 100  # generated sets
 # what a text has beside map, show and check, with the program's words for it
 TEXTS = ["map --json", "map --references", "map --references --json", "show --json", "check --json", "list", "list --json", "check --unit", "check --unit --json"]
@@ -28,20 +31,24 @@ SAMPLE_SETS = ["host library", "big_host big_library", "host using used", "two_u
 
 def longest(is_linked):
     """A host of sixteen codes of 64 blocks each, or what it is linked to."""
-    body = bytes(range(256)) * 128
-    def code(slot):
-        return large.code(bytes([slot]) + body[: LONGEST_CODE - 15], slot)
-    def segment(slot):
-        kind = large.HOSTSEG if slot == 0 and not is_linked else 0
-        records = large.end_mark(8) if kind else b""
-        return slot, b"SEG%05d" % slot, kind, code(slot), records
-    return large.file_of([segment(slot) for slot in range(16)])
+    body = (bytes(range(256)) * 128)[: LONGEST_CODE - 15]
+    slots = {slot: m.Segment(f"SEG{slot:05}", m.LINKED, [m.Procedure([bytes([slot]), body])]) for slot in range(16)}
+    if not is_linked:
+        slots[0] = dataclasses.replace(slots[0], kind=m.HOSTSEG, records=[m.eof_mark(8)])
+    return m.written(m.File(slots))
+
+
+def long_pair():
+    """A host of many definitions, and a library whose unit is full of operands."""
+    host = host_program(*(m.publ_def(f"{number:08}", 3) for number in range(5000)))
+    unit = unit_of("UTIL", [bytes(OPERANDS)], [m.unit_ref("UTIL", range(OPERANDS))])
+    return [m.written(m.File(slots)) for slots in (wanting("UTIL", host=host), {2: unit})]
 
 
 def long_cases():
     """For each long case: its name, its files, and for each command the status, the output, what is on error output, and the
     linked file, each None where it is compared with the program alone."""
-    none = bytes(large.BLOCK)
+    none = bytes(m.BLOCK)
     yield ("the longest linked file", [longest(False)],
            {"link": (0, "segments 16 private words 0 blocks 1025\n", "", longest(True))})
     yield ("500 libraries", [HOST, *[none] * 499, LIBRARY],
@@ -49,7 +56,7 @@ def long_cases():
     fault = (1, "", "pslink: refused 1 ShortFile file 300\n", None)
     yield ("a fault in library 300", [HOST, *[none] * 299, none[1:], LIBRARY], {"link": fault, "map": fault})
     # (a line of a public has 24 bytes, and one of a record as many at least)
-    yield ("a long map and a long show", [large.host_of_definitions(5000), large.library_of_operands()], {})
+    yield ("a long map and a long show", long_pair(), {})
 
 
 def without_refusal(command, answer):
@@ -80,7 +87,7 @@ def differences(pslink, others, what, command, files, wanted=None):
 
 def of_samples(*linkers):
     for names in SAMPLE_SETS:
-        files = [make_samples.SAMPLES[f"{name}.code"] for name in names.split()]
+        files = [SAMPLES[name] for name in names.split()]
         for command in ("link", "map", "check", "check --strict", *TEXTS):
             yield from differences(*linkers, names, command, files)
     for path in [*(ROOT / "samples").glob("*.code"), *(ROOT / "samples").glob("*.map")]:

@@ -139,6 +139,19 @@ static int lacks_its_unit(uint32_t what, size_t count, uint32_t status)
     return status == PSLINK_REFUSED && (what & ~PSLINK_JSON) <= PSLINK_REFERENCES && count == 1;
 }
 
+/* The status of a text in this room, for which the allocation of this turn is refused. */
+static uint32_t text_refused(long turn, uint32_t what, const pslink_file *files, size_t count, unsigned char *room, pslink_answer *answer)
+{
+    uint32_t status;
+
+    memset(room, FILLER, ROOM);
+    asked = 0;
+    refused_at = turn;
+    status = pslink_text(what, files, count, room, ROOM, answer);
+    refused_at = -1;
+    return status;
+}
+
 /* Each allocation refused in turn, of each text in each form. */
 static void check_memory(uint32_t what, size_t count)
 {
@@ -148,13 +161,8 @@ static void check_memory(uint32_t what, size_t count)
     long turn;
 
     for (turn = 0; turn < 1000; turn++) {
-        uint32_t status;
+        const uint32_t status = text_refused(turn, what, files, count, room, &answer);
 
-        memset(room, FILLER, sizeof room);
-        asked = 0;
-        refused_at = turn;
-        status = pslink_text(what, files, count, room, sizeof room, &answer);
-        refused_at = -1;
         if (asked <= turn) {
             check(status == PSLINK_DONE || lacks_its_unit(what, count, status), "with all memory it is not done", what);
             check((turn == 0) == (status == PSLINK_REFUSED || (what == PSLINK_HAD && count <= 2)), "memory is asked for otherwise", what);
@@ -208,13 +216,8 @@ static void check_whole_text(uint32_t what, const pslink_file *files, size_t cou
     check(pslink_text(what, files, count, whole, sizeof whole, &answer) == PSLINK_DONE, "with all memory it is not done", what);
     length = answer.size;
     for (turn = 0; turn < 1000; turn++) {
-        uint32_t status;
+        const uint32_t status = text_refused(turn, what, files, count, room, &answer);
 
-        memset(room, FILLER, sizeof room);
-        asked = 0;
-        refused_at = turn;
-        status = pslink_text(what, files, count, room, sizeof room, &answer);
-        refused_at = -1;
         if (asked <= turn) {
             check(status == PSLINK_DONE && answer.size == length && memcmp(room, whole, length) == 0, "the whole text is another", what);
             check(turn != 0, "no memory is asked for", what);

@@ -29,11 +29,12 @@ import zipfile
 ROOT = pathlib.Path(__file__).resolve().parents[2]
 PACKAGE = ROOT / "bindings/python"
 sys.dont_write_bytecode = True
-sys.path[:0] = [str(PACKAGE), str(ROOT / "samples")]
+sys.path[:0] = [str(PACKAGE), str(ROOT / "vectors")]
 BUILT, OTHERS, FOLDER = (pathlib.Path(path).resolve() for path in sys.argv[1:4])
 os.environ["PSLINK_LIBRARY"] = str(BUILT / "libpslink.so.3")
-import make_samples  # noqa: E402
 import pslink  # noqa: E402
+from descriptions.links import unit_of  # noqa: E402
+from descriptions.model import File, unit_ref, written  # noqa: E402
 
 HOST, LIBRARY, USING, USED, BOTH = (ROOT / f"samples/{name}.code" for name in ("host", "library", "using", "used", "two_units"))
 UTIL, AUX = "UTIL", "AUX"
@@ -154,9 +155,7 @@ def changed(file, **changes):
 
 def unit(name, *uses):
     """A library with the unit of this name, whose records request these."""
-    records = [*(make_samples.unit_ref(other, []) for other in uses), make_samples.eof_mark(0)]
-    body = [make_samples.Procedure(1, ["NOP", "RNP 0"])]
-    return make_samples.code_file({2: make_samples.Segment(name, make_samples.UNITSEG, body, records)})
+    return written(File({2: unit_of(name, ["D7"], [unit_ref(other, []) for other in uses])}))
 
 
 def of_what_is_at_fault():

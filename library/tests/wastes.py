@@ -11,30 +11,23 @@ import tempfile
 
 sys.dont_write_bytecode = True
 ROOT = pathlib.Path(__file__).resolve().parents[2]
-sys.path.insert(0, str(ROOT / "samples"))
-import make_samples as samples
+sys.path.insert(0, str(ROOT / "vectors"))
+from descriptions.links import unit_of, wanting
+from descriptions.model import File, Segment, const_def, publ_ref, written
 
 NAMES = [f"UNIT{number}" for number in range(9)]
 MANY = 3000
 # Records that are read and of which nothing is linked, and such that are looked up.
 LISTS = {
-    "records that are known are read again": [samples.const_def(f"C{number}", 1) for number in range(MANY)],
-    "records that are shared are linked again": [samples.publ_ref("COUNT", []) for _ in range(MANY)],
+    "records that are known are read again": [const_def(f"C{number}", 1) for number in range(MANY)],
+    "records that are shared are linked again": [publ_ref("COUNT", []) for _ in range(MANY)],
 }
 
 
 def library(records, copies):
     """A library of units of these names: of so many copies of one segment, the last of which the names that are left share."""
-    units = {}
-    for slot, name in enumerate(NAMES[:copies]):
-        units[slot] = samples.Segment(name, samples.UNITSEG, [samples.Procedure(1, ["NOP", "RNP 0"])], [*records, samples.eof_mark(0)])
-    file = bytearray(samples.code_file(units))
-    first = bytes(file[:4])
-    for slot in range(copies, len(NAMES)):
-        file[4 * slot : 4 * slot + 4] = first
-        file[64 + 8 * slot : 72 + 8 * slot] = samples.padded_name(NAMES[slot])
-        file[192 + 2 * slot] = samples.UNITSEG
-    return bytes(file)
+    units = {slot: unit_of(name, ["D7"], records) if slot < copies else Segment(name, shares=0) for slot, name in enumerate(NAMES)}
+    return written(File(units))
 
 
 def instructions(program, folder, host, library):
@@ -48,7 +41,7 @@ def instructions(program, folder, host, library):
 
 def main():
     program = pathlib.Path(sys.argv[1]).resolve()
-    host = samples.code_file({1: samples.DEMO, **{7 + k: samples.Segment(name, samples.UNITSEG, samples.WANTED) for k, name in enumerate(NAMES)}})
+    host = written(File(wanting(*NAMES)))
     differences = 0
     with tempfile.TemporaryDirectory() as folder:
         for waste, records in LISTS.items():

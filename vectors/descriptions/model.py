@@ -304,6 +304,11 @@ def file_bytes(file, laid):
     return changed(encoded, file.changes)[: file.cut]
 
 
+def written(file):
+    """The bytes of a file."""
+    return file_bytes(file, laid_out(file))
+
+
 def is_filled(segment, entry):
     """FORMAT.md, What a slot is for: none of its first three rows fits."""
     address, length = entry
