@@ -121,6 +121,9 @@ definitions | PUBLDEF COUNT value 3; CONSTDEF COUNT value 4; EOFMARK next 8 \
 | refused 24 DoubledDefinition file 0 slot 1 record 1
 8 | PUBLREF COUNT at 1; PRIVREF STATE words 4 at 4; EOFMARK next 0 \
 | slot 7 record 1 STATE    offset 8 words 4; Some(8) None None None None words 4 next 12
+8 | PRIVREF STATE words 4 at 4; PRIVREF TOTAL words 2 at 8; EOFMARK next 0 \
+| slot 7 record 0 STATE    offset 8 words 4; slot 7 record 1 TOTAL    offset 12 words 2; \
+Some(12) Some(8) None None None words 6 next 14
 32764 | PUBLREF COUNT at 1; PRIVREF STATE words 4 at 4; EOFMARK next 0 \
 | refused 26 NoRoom file 1 slot 7 record 1
 8 | PRIVREF STATE words 4 at; PRIVREF STATE words 4 at; EOFMARK next 0 \
