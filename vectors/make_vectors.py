@@ -12,7 +12,7 @@ import shutil
 import sys
 
 sys.dont_write_bytecode = True
-from descriptions import codes, dense, dictionaries, everywhere, faults, large, limits, links, names, orders, pairs, places, records, requests, turned
+from descriptions import codes, dictionaries, everywhere, faults, large, limits, links, names, orders, pairs, places, records, requests, turned, varied
 from descriptions.cases import described, map_of, summary
 from descriptions.model import REASONS, file_bytes, laid_out, show_of
 
@@ -41,7 +41,7 @@ def described_cases():
     yield from orders.cases()
     yield from places.cases()
     yield from everywhere.cases()
-    yield from dense.cases()
+    yield from varied.cases()
 
 
 def text(lines):

@@ -17,8 +17,6 @@ AXES = {
     "next_free": (8, 1, 127, 255, 256, 3000, 16000), "words": (4, 1, 0, 2, 255, 256, 3000), "end": (0, 1, 9, 300, 32767, 32768, 65535),
     "number": (None, 0, 7, 255), "text": (0, 1, 300), "blocks": (0, 1, 2, 3, 9), "level": (1, 0, 2, 127, 128, 255), "names": range(7),
 }
-# Values that make long codes and files, which few cases have
-LONG = {"lead": (4086, 4095, 8180, 16374), "gap": (2000,), "procedures": (60,), "records": (120, 300), "listed": (100, 257), "blocks": (40, 130)}
 # Names of a variable of the program, of a private one, of a constant, and one that is not defined
 NAMES = [("COUNT", "STATE", "LIMIT", "CUONT"), ("C", "S", "L", "D"), ("COUNTERS", "STATEFUL", "LIMITING", "COUNTERZ"), ("count", "state", "limit", "COUNT"),
          (b"COUNT\0\0\0", b"STATE\0\0\0", b"LIMIT\0\0\0", "COUNT"), (bytes.fromhex("C3 4F 55 4E 54 20 20 20"), " STATE", b"L\0IMIT  ", "COUNT"), ("A B", "A C", "A D", "A E")]
@@ -46,13 +44,6 @@ def turn_of(rule, number):
 @functools.cache
 def shuffled(rule):
     return {axis: random.Random(f"{rule} {axis}").sample(list(some), len(some)) for axis, some in AXES.items()}
-
-
-def turn_by(numbers, long=0.0):
-    """Values that these random numbers choose; so many of them are long, in a hundred."""
-    values = {axis: numbers.choice(list(some)) for axis, some in AXES.items()}
-    values |= {axis: numbers.choice(some) for axis, some in LONG.items() if numbers.random() < long}
-    return Turn(values)
 
 
 @dataclasses.dataclass
