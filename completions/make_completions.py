@@ -5,9 +5,10 @@ import pathlib
 import re
 import sys
 
+sys.dont_write_bytecode = True
 HERE = pathlib.Path(__file__).resolve().parent
-sys.path.insert(0, str(HERE.parent / "web"))
-import make_command_line
+sys.path.insert(0, str(HERE))
+import command_line
 
 
 def options_of(command):
@@ -62,7 +63,7 @@ def for_fish(text, commands):
 
 def main():
     folder = pathlib.Path(sys.argv[1] if len(sys.argv) > 1 else HERE)
-    program = make_command_line.program(make_command_line.Source(make_command_line.SOURCE.read_text()))
+    program = command_line.program()
     for name, made in (("_pslink", for_zsh), ("pslink.bash", for_bash), ("pslink.fish", for_fish)):
         (folder / name).write_text(made((HERE / name).read_text(), program["commands"]))
 

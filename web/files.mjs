@@ -1,6 +1,5 @@
 /*
- * Files and streams for the command line over node. Each is done at once and in order, as by the program pslink, so that one file
- * alone is open at a time.
+ * Files and streams for `pslink volume` over node. Each is done at once and in order, so that one file alone is open at a time.
  */
 
 import {closeSync, fstatSync, openSync, readSync, realpathSync, statSync, writeSync} from "node:fs";
@@ -12,33 +11,14 @@ const LONGEST = 67108864;
 
 const CHUNK = 65536, MILLISECONDS_TO_WAIT = 5;
 
-const MISSING = "no such file", FOLDER = "a folder", FORBIDDEN = "no permission", OUT_OF_MEMORY = "out of memory";
-const CAUSES = {
-  ENOENT: MISSING, ENOTDIR: MISSING, EISDIR: FOLDER, EACCES: FORBIDDEN, EPERM: FORBIDDEN,
-  ERR_INVALID_ARG_VALUE: "its name is not UTF-8",
-};
-
 // control characters, and those that end a line, take no room on it or turn its direction
 const HIDDEN = /[\p{Cc}\p{Zl}\p{Zp}\p{Default_Ignorable_Code_Point}\uFFF9-\uFFFB]/u;
 const LETTERS = {"\0": "0", "\t": "t", "\n": "n", "\r": "r", '"': '"', "\\": "\\"};
 
-/** Why a file is not read: the cause, which is null where the file is too long. */
+/** A file that cannot be read, or that is too long. */
 export class Unread extends Error {
-  constructor(path, cause) {
-    super(path);
-    this.path = path;
-    this.cause = cause;
-  }
-
-  static outOfMemory(path) {
-    return new Unread(path, OUT_OF_MEMORY);
-  }
-
-  /** The line that reports it, with the cause or without. */
-  line({hasCause}) {
-    const path = shownPath(this.path);
-    if (this.cause === null) return `${path} is longer than ${LONGEST} bytes`;
-    return `cannot read ${path}${hasCause ? ` (${this.cause})` : ""}`;
+  constructor(path, isTooLong = false) {
+    super(isTooLong ? `${shownPath(path)} is longer than ${LONGEST} bytes` : `cannot read ${shownPath(path)}`);
   }
 }
 
@@ -49,9 +29,9 @@ export class Unwritten extends Error {
   }
 }
 
-/** Whether there was no memory for a file, or for anything else. */
+/** Whether there was no memory. */
 export function isOutOfMemory(error) {
-  return error instanceof Unread ? error.cause === OUT_OF_MEMORY : error instanceof RangeError && !/call stack/.test(error.message);
+  return error instanceof RangeError && !/call stack/.test(error.message);
 }
 
 /**
@@ -64,7 +44,7 @@ export function readFile(path) {
   try {
     return withFile(path, "r", (file) => joined(partsOf(path, file)));
   } catch (error) {
-    throw error instanceof Unread ? error : new Unread(path, causeOf(path, error));
+    throw error instanceof Unread || isOutOfMemory(error) ? error : new Unread(path);
   }
 }
 
@@ -75,7 +55,7 @@ function partsOf(path, file) {
     const part = new Uint8Array(room), count = readSync(file, part);
     if (count === 0) return parts;
     total += count;
-    if (total > LONGEST) throw new Unread(path, null);
+    if (total > LONGEST) throw new Unread(path, true);
     parts.push(part.subarray(0, count));
     room = CHUNK;
   }
@@ -89,13 +69,6 @@ function joined(parts) {
     return at + part.length;
   }, 0);
   return whole;
-}
-
-function causeOf(path, error) {
-  if (isOutOfMemory(error)) return OUT_OF_MEMORY;
-  const cause = CAUSES[error.code] ?? "the system gives another reason";
-  // (Windows forbids to open a folder)
-  return cause === FORBIDDEN && statOf(path)?.isDirectory() ? FOLDER : cause;
 }
 
 /**

@@ -57,10 +57,12 @@
 /** @typedef {{number: number, name: string, meaning: string, remedy: string}} Fault */
 
 /** The texts, by the names of the commands that print them, and their numbers in pslink.h. */
+// clang-format off
 export const TEXTS = Object.freeze({
   __proto__: null,
   map: 0, references: 1, show: 2, check: 3, list: 4, units: 5, findings: 6, wanted: 7, had: 8,
 });
+// clang-format on
 
 // those that are names of units
 const OF_NAMES = /** @type {const} */ (["wanted", "had"]);
@@ -86,6 +88,7 @@ const FUNCTIONS = ["pslink_link_nonnull", "pslink_text_nonnull", "pslink_fault_t
 
 // the name, the meaning and the remedy of each fault, from fault 1 on
 const FAULTS = [
+  // clang-format off
   // made by man/make_constants.py from crates/ps_words/src/fault.rt
   ["ShortFile",
    "The file has less than the 512 bytes of a segment dictionary.",
@@ -193,6 +196,7 @@ const FAULTS = [
    "The host has no empty slot from 7 to 15 left for the unit that the UNITREF in this record requests.",
    "Join two units into one, or take linked segments out of the host."],
   // end
+  // clang-format on
 ];
 
 /**

@@ -1,17 +1,12 @@
-#!/usr/bin/env python3
-"""Writes command_line.mjs, what the command line over node accepts, from crates/ps_arguments/src/command_line.rt, so that the texts of
-the help have one home. Usage: make_command_line.py [FOLDER], by default the folder of this script"""
-import json
+"""Reads what the command line accepts, with its texts, from crates/ps_arguments/src/command_line.rt: the commands, their arguments and
+their help, as values."""
 import pathlib
 import re
-import sys
 
 HERE = pathlib.Path(__file__).resolve().parent
 SOURCE = HERE.parent / "crates/ps_arguments/src/command_line.rt"
 TOKEN = re.compile(r"""\s+|//[^\n]*|(?P<text>"(?:[^"\\]|\\.)*")|'(?P<letter>[^'\\])'|(?P<word>\w+(?:::\w+)*)|(?P<sign>.)""", re.S)
 ESCAPES = {'\\"': '"', "\\\\": "\\", "\\n": "\n"}
-HEADER = "/* Made by make_command_line.py from crates/ps_arguments/src/command_line.rt: what the command line accepts, and its texts. */\n"
-CLOSING = {"(": ")", "[": "]", "{": "}"}
 
 
 class Source:
@@ -106,19 +101,10 @@ def command(source, form):
             "usage": of_ending(source, "usage", form["ending"]), "arguments": [argument(one) for one in form["arguments"]]}
 
 
-def program(source):
+def program():
     """The program with its commands."""
+    source = Source(SOURCE.read_text())
     about = re.search(r'\.about\("([^"]*)"\)', source.text)[1]
     name = re.search(r'Command::new\(heap, "([^"]*)"\)', source.text)[1]
     commands = [command(source, form) for form in source.constant("FORMS")]
     return {"name": name, "about": about, "ending": source.constant("ENDING"), "commands": commands}
-
-
-def main():
-    folder = pathlib.Path(sys.argv[1] if len(sys.argv) > 1 else HERE)
-    made = json.dumps(program(Source(SOURCE.read_text())), indent=2, ensure_ascii=False)
-    (folder / "command_line.mjs").write_text(f"{HEADER}export const PROGRAM = {made};\n")
-
-
-if __name__ == "__main__":
-    main()
