@@ -126,11 +126,7 @@ class Volume {
    * @throws {VolumeError} if there is no room, or the name or the directory allows no file: nothing is made then
    */
   put(name, bytes, {date = today()} = {}) {
-    if (this.flaws.length) throw new VolumeError(`Nothing is put onto the volume ${this.name}, as it is not sound. ${this.flaws[0]}`);
-    const contents = plain(bytes, "The file");
-    if (!contents.length) throw new VolumeError("The file has no bytes, and a file of a volume has one block at least.");
-    const old = this.#replaced(name), blocks = Math.ceil(contents.length / BLOCK);
-    const first = this.#placeFor(blocks, old);
+    const contents = plain(bytes, "The file"), {first, blocks, old} = this.place(name, contents.length);
     const entry = this.#directory.newEntry(capitals(name), first, blocks, contents.length - BLOCK * (blocks - 1), dateWord(date));
     const directory = this.#directory.with(entry, old);
     const copy = this.#image.copy();
@@ -139,6 +135,20 @@ class Volume {
     if (this.duplicate) copy.write(DUPLICATE_DIRECTORY, directory, DIRECTORY_BLOCKS);
     copy.mendChecksum();
     return {image: copy.bytes, first, blocks, replaced: old !== null};
+  }
+
+  /**
+   * Where a put would put a file of so many bytes, and the file that it would replace, or null.
+   * @param {string} name
+   * @param {number} length
+   * @returns {{first: number, blocks: number, old: VolumeFile | null}}
+   * @throws {VolumeError} as the put would
+   */
+  place(name, length) {
+    if (this.flaws.length) throw new VolumeError(`Nothing is put onto the volume ${this.name}, as it is not sound. ${this.flaws[0]}`);
+    if (!length) throw new VolumeError("The file has no bytes, and a file of a volume has one block at least.");
+    const old = this.#replaced(name), blocks = Math.ceil(length / BLOCK);
+    return {first: this.#placeFor(blocks, old), blocks, old};
   }
 
   /** The first file of this name, exactly or else without regard to capitals; null if there is none. */
@@ -455,8 +465,12 @@ function whyNoVolume(bytes, images) {
   return `There is no directory of a p-System volume in block 2. ${nearest.text}`;
 }
 
-/** What the bytes are if they are a known form that is not opened, as a sentence; null if they are not. */
-function otherForm(bytes) {
+/**
+ * What the bytes are if they are a known form that is not opened, as a sentence; null if they are not.
+ * @param {Uint8Array} bytes
+ * @returns {string | null}
+ */
+export function otherForm(bytes) {
   if (bytes[0] === 0x1f && bytes[1] === 0x8b) return "This is a gzip file. Unpack it first.";
   if (begins(bytes, "PK\x03\x04")) return "This is a zip file. Unpack it first.";
   if (begins(bytes, "2IMG") && bytes[12] === 2) return `This is a 2IMG image of nibbles. ${IN_BLOCKS}`;

@@ -4,6 +4,7 @@ Usage: make_page.py [MODULE [PAGE]], which are web/out/pslink.wasm and web/out/p
 import base64
 import hashlib
 import html
+import json
 import pathlib
 import re
 import sys
@@ -13,7 +14,10 @@ import manual
 HERE = pathlib.Path(__file__).resolve().parent
 WEB = HERE.parent
 ROOT = WEB.parent
-SCRIPTS = [WEB / "pslink.mjs", WEB / "volume.mjs", HERE / "lines.mjs", HERE / "page.mjs"]
+SHARED = ["pslink.mjs", "volume.mjs", "names.mjs", "elements.mjs", "pictured.mjs", "picture_style.mjs", "strips.mjs", "picture.mjs"]
+PARTS = ["common.mjs", "lines.mjs", "forms.mjs", "verdict.mjs", "volume_box.mjs", "putting.mjs", "texts.mjs", "segment.mjs", "picture_box.mjs",
+         "page.mjs"]
+SCRIPTS = [*(WEB / name for name in SHARED), *(HERE / name for name in PARTS)]
 SECTIONS = ["WARNINGS", "DAMAGED FILES", "DIAGNOSTICS", "ORDER OF FAULTS", "TEXTS"]
 IMPORT = re.compile(r'^import \{([^}]*)\} from "\./([^"]*)";\n|^import \{([^}]*)\} from "\.\./([^"]*)";\n', re.M)
 EXPORT = re.compile(r"^export ((?:async )?(?:function|class|const) (\w+))", re.M)
@@ -49,21 +53,35 @@ def script():
     return "\n" + "\n\n".join(scope(path, before) for path in SCRIPTS) + "\n"
 
 
+def runs(content):
+    """The bytes of a disk that are not zero, as JSON: how many bytes it has, and each run by its place and in base64. (What zlib makes is
+    another one with another release of it.)"""
+    found = re.finditer(rb"(?:[^\0]|\0{1,15}(?!\0))+", content)
+    return json.dumps([len(content), [[run.start(), base64.b64encode(run[0]).decode()] for run in found]], separators=(",", ":"))
+
+
+def own_words(text):
+    """The manual without the names of its pages, of which this page has none."""
+    text = re.sub(r"\s(in|of)\s+pslink\(1\)", " below", text)
+    return re.sub(r"differs from that of\s+<b>pslink</b>\(5\)", "is not the one that pslink reads", text)
+
+
 def digest(text):
     return base64.b64encode(hashlib.sha256(text.encode()).digest()).decode()
 
 
 def page(module):
-    code, style = script(), "\n" + read(HERE / "page.css")
+    code, style = script(), re.search("`(.*)`", read(WEB / "picture_style.mjs"), re.S)[1] + read(HERE / "page.css")
     if re.search("</script|<!--", code, re.I) or "</style" in style:
         raise SystemExit("the script or the style has a tag that would end it")
     parts = {
         "POLICY": POLICY.format(script=digest(code), style=digest(style)),
         "STYLE": style,
-        "MANUAL": manual.manual(read(ROOT / "man/pslink.1"), SECTIONS),
+        "MANUAL": own_words(manual.manual(read(ROOT / "man/pslink.1"), SECTIONS)),
         "LICENSE": html.escape(read(ROOT / "LICENSE").strip()),
         "NOTICES": html.escape(read(ROOT / "NOTICES").strip()),
         "MODULE": base64.b64encode(module).decode(),
+        "SAMPLE": runs((ROOT / "samples/disk.po").read_bytes()),
         "SCRIPT": code,
     }
     made = read(HERE / "page.html")

@@ -1,124 +1,40 @@
 /*
- * What a person does with files on this page, and what is shown of them. What the module answers is shown as it is.
- * Each text of a file, its name too, gets on the page as text, and never as HTML.
+ * What a person does with files on this page, and what is shown of them. What the module answers is
+ * shown as it is. Each text of a file, its name too, gets on the page as text, and never as HTML.
  */
-import {fault, load} from "../pslink.mjs";
-import {VolumeError, isVolume, openVolume} from "../volume.mjs";
-import {linesOf, nameOfFile, nameWith, patternOf, piecesOf, sentencesOf, shownName} from "./lines.mjs";
+import {made} from "../elements.mjs";
+import {nameOfFile, nameWith, shownName} from "../names.mjs";
+import {modelOf} from "../pictured.mjs";
+import {load} from "../pslink.mjs";
+import {VolumeError, isVolume, openVolume, otherForm} from "../volume.mjs";
+import {NOT_YET, baseOf, byId, count, hasCode, hostOf, listed, nameOf, saveFile, say,
+  state} from "./common.mjs";
+import {formsOf} from "./forms.mjs";
+import {patternOf} from "./lines.mjs";
+import {PictureBox} from "./picture_box.mjs";
+import {drawPutting, listenToPutting, onPut} from "./putting.mjs";
+import {boxesOfTexts, drawText} from "./texts.mjs";
+import {guarded, progress, setTerms, tellNothing, tellOutcome} from "./verdict.mjs";
+import {volumeBox} from "./volume_box.mjs";
 
 const FILE_MAX = 67108864; // what the program reads of a file
-const CODE_FILE = 2; // the kind of a code file in a directory
-const PER_FILE = ["show"]; // texts of one file alone
-const KEPT_MILLISECONDS = 60000; // how long a browser may take to begin to save
-const NOT_YET = "The files are still being looked at.";
+const CONVERTED_MAX = 8388608; // of which it is tried what would come of them
+const SAMPLE = "sample.po"; // the name of the sample disk
+const MEGABYTE = 1048576, DRAWN_MAX = 4194304; // what a file may have where the link is drawn
+const MISSING_UNIT = 13; // the number of the fault that no library has a unit
 
-// Each file: {name, bytes, what, had, entry}: what `list` says of it, the units that it has, and the entry of a volume that it is of.
-// Each volume: {image, volume, entries, box}: the name of the image, what volume.mjs made of it, and its part of the page. Each entry:
-// {file, bytes, what, had, box}, with its box to check, and without bytes where the image does not have them all.
-const state = {
-  files: [], wanted: [], volumes: [], linked: null,
-  round: 0, // how often the files were changed
-  underWay: 0, // how much work is under way
-  action: "", // what was done last, until it is told
-  target: null, isNamed: false, isPutNamed: false, isImageNamed: false, // what a person chose and wrote
-};
+const pictureBox = new PictureBox();
 let pslink;
-let terms = [];
-
-const byId = (id) => document.getElementById(id);
-
-/** An element with these properties, where `label` is its name for a reader of screens, and with these texts and elements in it. */
-function made(name, {label, ...properties} = {}, ...inside) {
-  const element = Object.assign(document.createElement(name), properties);
-  if (label) element.setAttribute("aria-label", label);
-  element.append(...inside);
-  return element;
-}
-
-const count = (number, one, more = `${one}s`) => `${number} ${number === 1 ? one : more}`;
 
 const roleOf = (k) => k === 0 ? "the host" : `library ${k}`;
-
-const nameOf = (name) => made("bdi", {textContent: shownName(name)});
-
-// ---- What is told of the files
-
-function tell(kind, headline, sentences) {
-  const outcome = byId("outcome");
-  outcome.className = kind;
-  outcome.replaceChildren(made("strong", {textContent: headline}), ...sentences.map((line) => made("p", {}, ...pieces(line))));
-  outcome.hidden = false;
-  say(headline, ...sentences);
-}
-
-/** Tells a reader of screens what was done, and what comes of it. */
-function say(...sentences) {
-  byId("told").textContent = [state.action, ...sentences].filter(Boolean).join(" ");
-  state.action = "";
-}
-
-function failed(error) {
-  tell("bad", "This page failed.", [String(error?.message ?? error), "Load the page again. The files are as they were."]);
-}
-
-/** The same work, where a failure is told; while any is under way the page says that it is busy. */
-function guarded(work) {
-  return async (...given) => {
-    state.underWay++;
-    document.body.setAttribute("aria-busy", "true");
-    try {
-      await work(...given);
-    } catch (error) {
-      failed(error);
-    }
-    if (--state.underWay === 0) document.body.setAttribute("aria-busy", "false");
-  };
-}
-
-function pieces(line) {
-  return piecesOf(line, terms).map(({text, anchor}) => anchor
-    ? made("a", {href: `#${anchor}`, textContent: text}) : text);
-}
-
-const OTHERWISE = {
-  __proto__: null,
-  "no memory": ["There is not enough memory for these files.", "Close other pages, or give fewer files."],
-  trapped: ["The module stopped.", "That is a fault of pslink or of the browser, and not of the files. Nothing was linked."],
-};
-
-function tellRefusal({result, report}) {
-  const known = fault(result.answer.fault);
-  const sentences = report.done ? sentencesOf(report.text) : [];
-  tell("bad", "The files are refused.", [...(sentences.length ? sentences : [known.meaning, known.remedy]), `${result.fault}.`]);
-}
-
-function tellLink({result, report}) {
-  const {segments, privateWords, blocks, size} = result.answer;
-  const notes = linesOf(report.text ?? "").filter(({line}) => line.startsWith("note: ")).length;
-  const warnings = report.answer?.warnings ?? 0;
-  const found = [warnings && count(warnings, "warning"), notes && count(notes, "note")].filter(Boolean).join(" and ");
-  tell(warnings ? "warned" : "good", warnings ? "The files link, with warnings." : "The files link.", [
-    `${count(segments, "segment")}, ${count(privateWords, "private word")}, ${count(blocks, "block")}: ${count(size, "byte")}.`,
-    ...(found ? [`The report has ${found}.`] : []),
-    ...(report.done ? [] : [`There is no report: ${report.status}.`]),
-  ]);
-}
-
-function tellOutcome(seen) {
-  const {result} = seen;
-  if (result.done) return tellLink(seen);
-  if (result.fault) return tellRefusal(seen);
-  const [headline, ...sentences] = OTHERWISE[result.status] ?? [`The files were not linked: ${result.status}.`];
-  return tell("bad", headline, [...sentences, ...(result.reason ? [`The browser says: ${result.reason}`] : [])]);
-}
 
 // ---- The list of files
 
 /** Draws the list of files anew; the focus stays in its row, or in the last one. */
 function drawFiles() {
   const hasFiles = state.files.length > 0;
-  byId("order").hidden = !hasFiles;
-  byId("first-steps").hidden = hasFiles || state.volumes.length > 0;
+  byId("chosen").hidden = !hasFiles;
+  byId("first-steps").hidden = byId("first-sample").hidden = hasFiles || state.volumes.length > 0;
   const {activeElement} = document, k = rowOf(activeElement);
   byId("files").replaceChildren(...state.files.map(row));
   if (k >= 0) focusRow(Math.min(k, state.files.length - 1), activeElement.className);
@@ -131,26 +47,44 @@ function drawFiles() {
 const rowOf = (element) => [...byId("files").children].indexOf(element.closest("li"));
 
 function row(file, k) {
-  const name = shownName(file.name), last = state.files.length - 1, part = (className, textContent) => made("span", {className, textContent});
-  const button = (className, textContent, label, more) => made("button", {type: "button", className, textContent, label, ...more});
+  const part = (className, textContent) => made("span", {className, textContent});
   return made("li", {},
     part("role", k === 0 ? "Host" : `Library ${k}`),
-    made("span", {className: "about"}, made("span", {className: "name"}, nameOf(file.name)), part("what", file.what), part("units", unitsOf(file, k))),
-    made("span", {className: "acts"},
-      button("up", "Up", `Move ${name} up`, {disabled: k === 0, onclick: () => move(k, k - 1, "up")}),
-      button("down", "Down", `Move ${name} down`, {disabled: k === last, onclick: () => move(k, k + 1, "down")}),
-      button("remove", "Remove", `Remove ${name}`, {onclick: () => remove(k)})));
+    made("span", {className: "about"}, made("span", {className: "name"}, nameOf(file.name)),
+      part("what", file.what), part("units", unitsOf(file, k)), part("warning", noteOf(file))),
+    made("span", {className: "acts"}, ...rowButtons(file, k)));
+}
+
+function rowButtons(file, k) {
+  const name = shownName(file.name), last = state.files.length - 1;
+  const button = (className, textContent, label, more) => made("button", {
+    type: "button", className, textContent, label, ...more});
+  const up = {disabled: k === 0, onclick: () => move(k, k - 1, "up")};
+  const down = {disabled: k === last, onclick: () => move(k, k + 1, "down")};
+  const first = {disabled: k === 0, onclick: () => move(k, 0, "host")};
+  return [button("up", "Up", `Move ${name} up`, up),
+    button("down", "Down", `Move ${name} down`, down),
+    button("host", "Use as host", `Use ${name} as host`, first),
+    ...(file.form ? [button("convert", file.form.words, `${file.form.words}: ${name}`,
+      {onclick: () => convert(file)})] : []),
+    button("remove", "Remove", `Remove ${name}`, {onclick: () => remove(k)})];
 }
 
 function unitsOf(file, k) {
-  const list = (names) => names.map((name) => shownName(name.trimEnd())).join(", ");
-  const wanted = k === 0 && state.wanted.length ? [`wants ${list(state.wanted)}`] : [];
-  return [...wanted, ...(file.had.length ? [`has ${list(file.had)}`] : [])].join("; ");
+  const wanted = k === 0 && state.wanted.length ? [`wants ${listed(state.wanted)}`] : [];
+  return [...wanted, ...(file.had.length ? [`has ${listed(file.had)}`] : [])].join("; ");
+}
+
+/** What a file is that is no code file, where the page knows it. */
+function noteOf({form = null, note = null}) {
+  return form ? `It ${form.told}.` : note ?? "";
 }
 
 function focusRow(k, kind) {
   const there = byId("files").children[k];
-  (there?.querySelector(`.${kind}:enabled`) ?? there?.querySelector("button:enabled") ?? byId("choose")).focus();
+  const control = there?.querySelector(`.${kind}:enabled`)
+    ?? there?.querySelector("button:enabled");
+  (control ?? byId("choose")).focus();
 }
 
 function move(from, to, kind) {
@@ -163,7 +97,15 @@ function move(from, to, kind) {
 
 function remove(k) {
   const [file] = state.files.splice(k, 1);
+  if (!file.entry) state.removed.push(file);
   changed(`${shownName(file.name)} is removed.`);
+}
+
+function removeAll() {
+  state.removed.push(...state.files.filter(({entry}) => !entry));
+  state.files = [];
+  changed("All files are removed.");
+  byId("choose").focus();
 }
 
 function onKey(event) {
@@ -179,23 +121,114 @@ function onKey(event) {
 
 // A file's line of `list` ends with what it is, as in "f: little-endian, 1536 bytes, host".
 async function known(file) {
-  const given = [{name: "f", bytes: file.bytes}];
-  const {text = ""} = await pslink.text("list", given);
-  const {names = []} = await pslink.units("had", given);
-  return {...file, what: text.split("\n", 1)[0].replace(/^f: /, ""), had: names};
+  const it = [{name: "f", bytes: file.bytes}], {text = ""} = await pslink.text("list", it);
+  const had = await pslink.units("had", it), wanted = await pslink.units("wanted", it);
+  const line = text.split("\n", 1)[0].replace(/^f: /, "");
+  const what = line.replace(/(^|[ ,])1 bytes\b/, "$11 byte");
+  return {...file, what, had: had.names ?? [], wants: wanted.names ?? []};
 }
+
+/**
+ * A file that was given, or one of a volume; if it is no code file, with what would come of it, or
+ * with what else it is.
+ */
+async function given(name, bytes) {
+  const file = await known({name, bytes, entry: null});
+  if (hasCode(file)) return file;
+  const form = bytes.length > CONVERTED_MAX ? null : await formOf(bytes);
+  return {...file, form, note: otherForm(bytes)};
+}
+
+/** The first form of which a code file or a volume comes; null if there is none. */
+async function formOf(bytes) {
+  for (const form of await formsOf(bytes)) {
+    if (isVolume(form.bytes) || hasCode(await known({bytes: form.bytes}))) return form;
+  }
+  return null;
+}
+
+/**
+ * Puts what comes of a file in its place, as a row of its own, or opens the volume that comes of
+ * it.
+ */
+async function useForm(file) {
+  const name = `${file.name}, ${file.form.named}`, {bytes} = file.form,
+    k = state.files.indexOf(file);
+  const action = `${shownName(name)} is in place of ${shownName(file.name)}.`;
+  if (k < 0) return;
+  if (isVolume(bytes)) {
+    state.files.splice(k, 1);
+    await open(name, bytes);
+  } else {
+    state.files.splice(k, 1, {...await known({name, bytes, entry: null}), base: baseOf(file)});
+    putHostFirst();
+  }
+  changed(action);
+  focusRow(Math.min(k, state.files.length - 1), "remove");
+}
+
+const convert = guarded(useForm);
 
 const isHost = (file) => file.what.endsWith(" bytes, host");
 
-/** Puts files behind the others. A host that is not first is what was meant, if it is the only one. */
+/** A host that is not first is what was meant, if it is the only one. */
+function putHostFirst() {
+  if (state.files.filter(isHost).length !== 1) return;
+  state.files.unshift(...state.files.splice(state.files.findIndex(isHost), 1));
+}
+
+/** Puts files behind the others. */
 function insert(added, lost = []) {
   const hadHost = state.files.length > 0 && isHost(state.files[0]);
   state.files.push(...added);
-  if (!hadHost && state.files.filter(isHost).length === 1) {
-    state.files.unshift(...state.files.splice(state.files.findIndex(isHost), 1));
-  }
-  changed(...lost, added.length ? `Added: ${added.map(({name}) => shownName(name)).join(", ")}.` : "");
+  if (!hadHost) putHostFirst();
+  const names = added.map(({name}) => shownName(name)).join(", ");
+  changed(...lost, added.length ? `Added: ${names}.` : "");
 }
+
+// ---- A unit that no file has
+
+/**
+ * What a person can take that has the unit which is missing: entries of open volumes, and files
+ * that were removed.
+ */
+function havingUnit({fault: number, name}) {
+  if (number !== MISSING_UNIT) return [];
+  const isChosen = (entry) => state.files.some((file) => file.entry === entry);
+  const entries = state.volumes.flatMap(({volume, entries: all}) => all
+    .filter((entry) => entry.bytes && !isChosen(entry))
+    .map((entry) => fileOf(volume, entry)));
+  return [...entries, ...state.removed].filter(({had}) => had.includes(name));
+}
+
+/**
+ * What the page says of the file at fault in place of the program, where it knows what the file is.
+ */
+function instead(file) {
+  const {form, note, name} = file;
+  if (!form) return [{isInstead: true, sentence: `${shownName(name)}: ${note}`}];
+  const act = () => convert(file);
+  return [{isInstead: true, sentence: `${shownName(name)} ${form.told}.`, words: form.words, act}];
+}
+
+/**
+ * Offers what can be done with the file at fault, or each file that has the unit which is missing.
+ */
+function offersFor({answer}) {
+  const file = state.files[answer?.file ?? -1];
+  if (file?.form || file?.note) return instead(file);
+  const unit = listed([answer?.name ?? ""]);
+  return havingUnit(answer ?? {}).map((file) => ({
+    sentence: `${shownName(file.name)} has ${unit}.`, words: `Take ${shownName(file.name)}`,
+    act: () => takeAgain(file)}));
+}
+
+function takeAgain(file) {
+  state.removed = state.removed.filter((it) => it !== file);
+  insert([file]);
+}
+
+// ---- Reading files
 
 /** Why a file is not read, as a sentence. */
 class UnreadError extends Error {}
@@ -209,13 +242,15 @@ async function read(file) {
   }
 }
 
-async function add(given) {
+async function add(all) {
   const added = [], lost = [];
-  for (const file of given) {
+  const size = all.reduce((sum, file) => sum + Math.min(file.size, FILE_MAX), 0);
+  for (const [k, file] of all.entries()) {
     try {
+      await progress(size, `Reading file ${k + 1} of ${all.length}: ${shownName(file.name)}`);
       const bytes = await read(file);
       if (isVolume(bytes)) await open(file.name, bytes);
-      else added.push(await known({name: file.name, bytes, entry: null}));
+      else added.push(await given(file.name, bytes));
     } catch (error) {
       if (!(error instanceof UnreadError)) throw error;
       lost.push(`${shownName(file.name)}: ${error.message}`);
@@ -226,31 +261,59 @@ async function add(given) {
   insert(added, lost);
 }
 
+/**
+ * The sample disk: its bytes that are not zero are in the page, each run of them with its place.
+ */
+function sampleDisk() {
+  const [size, runs] = JSON.parse(byId("sample-disk").textContent), image = new Uint8Array(size);
+  for (const [place, text] of runs) image.set(bytesOf(text), place);
+  return image;
+}
+
+/** Opens the sample disk, and takes its program and what that wants into the link. */
+async function onSample() {
+  await open(SAMPLE, sampleDisk());
+  const {volume, entries} = state.volumes.at(-1);
+  insert(entries.map((entry) => fileOf(volume, entry)));
+}
+
 let adding = Promise.resolve();
 
 /** Adds files after those that are being read. */
-function give(given) {
-  const files = [...given];
+function give(all) {
+  const files = [...all];
   if (files.length) adding = adding.then(() => guarded(add)(files));
 }
 
 // ---- What comes of the files
 
-/** Looks at the files anew. An answer that comes after the files were changed again is not shown. */
+/**
+ * Looks at the files anew. An answer that comes after the files were changed again is not shown.
+ */
 async function look() {
   const round = ++state.round, files = [...state.files];
   state.linked = null;
+  pictureBox.wait();
   drawFiles();
   if (files.length === 0) return drawNothing();
-  const result = await pslink.link(files), report = await pslink.text("check", files), wanted = await pslink.units("wanted", files);
+  const size = files.reduce((sum, {bytes}) => sum + bytes.length, 0);
+  await progress(size, `Linking ${count(files.length, "file")} of ${Math.ceil(size / MEGABYTE)} MiB`);
+  if (round !== state.round) return undefined;
+  const result = await pslink.link(files);
+  await progress(size, "Writing the report");
+  const report = await pslink.text("check", files);
+  const wanted = await pslink.units("wanted", files);
   if (round !== state.round) return undefined;
   state.linked = result.done ? result.bytes : null;
   state.wanted = wanted.names ?? [];
-  files.forEach((file, k) => { byId("files").children[k].querySelector(".units").textContent = unitsOf(file, k); });
-  tellOutcome({result, report});
+  files.forEach((file, k) => {
+    byId("files").children[k].querySelector(".units").textContent = unitsOf(file, k);
+  });
   drawKeeping();
+  tellOutcome({result, report}, result.done ? [] : offersFor(result));
   byId("texts").hidden = false;
-  return Promise.all([...document.querySelectorAll("#texts details")].map(drawText));
+  await drawPicture(files, {result, report});
+  return Promise.all(boxesOfTexts().map((details) => drawText(pslink, details)));
 }
 
 function changed(...actions) {
@@ -259,71 +322,44 @@ function changed(...actions) {
   guarded(look)();
 }
 
+// ---- The picture
+
+/**
+ * Has the picture drawn once it comes into view. One of files that were changed in the meantime is
+ * not.
+ */
+function drawPicture(files, {result, report}) {
+  const large = files.filter(({bytes}) => bytes.length > DRAWN_MAX).map(({name}) =>
+    shownName(name));
+  if (!result.done && !result.fault) return pictureBox.hide();
+  if (large.length) return pictureBox.hide(`There is no picture of files of more than 4 MiB: ${large.join(", ")}.`);
+  return pictureBox.show(() => modelOf(pslink, files, result, report));
+}
+
+function onSavePicture() {
+  const host = baseOf(hostOf() ?? {name: ""}).replace(/^.*:/, ""),
+    name = nameOfFile(host).replace(/(\.[^.]*)?$/, ".picture.svg");
+  const svg = pictureBox.file(`The link of ${shownName(host)}`);
+  if (svg === null) return say(NOT_YET);
+  saveFile(name, svg, "image/svg+xml");
+  return say(`Saved: ${name}.`);
+}
+
 function drawNothing() {
-  for (const id of ["outcome", "keeping", "texts"]) byId(id).hidden = true;
+  for (const id of ["saving", "keeping", "texts"]) byId(id).hidden = true;
   for (const parts of document.querySelectorAll("#texts .parts")) parts.replaceChildren();
-  say(state.volumes.length ? "" : "There are no files.");
-}
-
-/** The texts of a kind: one of all files, or one of each. */
-function textsOf(kind) {
-  if (PER_FILE.includes(kind)) return state.files.map((file) => ({title: file.name, files: [file]}));
-  return [{title: null, files: [...state.files]}];
-}
-
-async function drawText(details) {
-  const kind = details.dataset.text, parts = details.querySelector(".parts"), round = state.round;
-  if (!details.open) return parts.replaceChildren();
-  const drawn = [];
-  for (const {title, files} of textsOf(kind)) {
-    const result = await pslink.text(kind, files);
-    drawn.push(...partOf(kind, title, files, result));
-  }
-  return round === state.round && details.open ? parts.replaceChildren(...drawn) : undefined;
-}
-
-/** A text with its title, if it has one, and with the buttons that save it. */
-function partOf(kind, title, files, result) {
-  const name = byId("texts").querySelector(`[data-text=${kind}] summary`).textContent;
-  const label = title === null ? name : `${name}: ${shownName(title)}`;
-  const button = (textContent, isJson) => made("button", {
-    type: "button", textContent, label: `${textContent}: ${label}`, onclick: guarded(() => saveText(kind, files, isJson))});
-  return [
-    ...(title === null ? [] : [made("h3", {}, nameOf(title))]),
-    textBox(label, result.done ? result.text : `pslink: ${result.fault ?? result.status}\n`),
-    ...(result.done ? [made("p", {className: "acts"}, button("Save as text", false), button("Save as JSON", true))] : []),
-  ];
-}
-
-/** The lines of a text. The end of a line is between two of them, so that what is copied is the text. */
-function textBox(label, text) {
-  const lines = linesOf(text).map(({line, kind}, k) => made("span", {className: kind}, ...(k ? ["\n"] : []), ...pieces(line)));
-  const box = made("pre", {tabIndex: 0, label}, ...lines);
-  box.setAttribute("role", "region");
-  return box;
-}
-
-async function saveText(kind, files, isJson) {
-  const {done, bytes, status} = await pslink.text(kind, files, {json: isJson});
-  const name = `${nameOfFile(files[0].name).replace(/\.[^.]*$/, "")}.${kind}.${isJson ? "json" : "txt"}`;
-  if (!done) throw new Error(`There is no such text: ${status}.`);
-  saveFile(name, bytes, isJson ? "application/json" : "text/plain");
-  say(`Saved: ${name}.`);
+  pictureBox.hide();
+  tellNothing();
 }
 
 // ---- Saving
 
-function saveFile(name, bytes, type = "application/octet-stream") {
-  const href = URL.createObjectURL(new Blob([bytes], {type}));
-  made("a", {href, download: name}).click();
-  setTimeout(() => URL.revokeObjectURL(href), KEPT_MILLISECONDS);
-}
-
-/** What can be done with the linked file. The names that are offered are those of the host, until a person writes others. */
+/** What can be done with the linked file. A name that a person writes is for this host alone. */
 function drawKeeping() {
-  byId("keeping").hidden = !state.linked;
+  byId("saving").hidden = byId("keeping").hidden = !state.linked;
   if (!state.linked) return;
-  if (!state.isNamed) byId("save-name").value = nameWith(nameOfFile(state.files[0].name.replace(/^.*:/, "")), "linked");
+  const name = nameWith(nameOfFile(baseOf(hostOf()).replace(/^.*:/, "")), "linked");
+  if (state.namedFor !== (hostOf().entry ?? hostOf())) byId("save-name").value = name;
   drawPutting();
 }
 
@@ -337,134 +373,58 @@ function onSave(event) {
 
 // ---- Volumes
 
-const partsOfVolume = ({format, bigEndian, blocks, freeBlocks, duplicate}) => [format, bigEndian ? "big-endian" : "little-endian",
-  count(blocks, "block"), `${freeBlocks} free`, ...(duplicate ? ["a duplicate directory"] : [])].join(", ");
-
-const dayOf = (date) => date ? [date.year, date.month, date.day].map((part) => String(part).padStart(2, "0")).join("-") : "no date";
-
-const isCode = ({file, what}) => file.kind === CODE_FILE || /, (host|library|linked|mixed)$/.test(what);
-
 async function open(name, bytes) {
   const volume = openVolume(bytes), opened = {image: name, volume, entries: []};
   for (const file of volume.files) opened.entries.push({file, ...await entryOf(volume, file)});
-  opened.box = volumeBox(opened);
+  const acts = {choose: (entry) => choose(opened, entry), close: () => closeVolume(opened),
+    save: (entry) => saveEntry(opened, entry)};
+  opened.box = volumeBox(opened, acts);
   byId("volume-list").append(opened.box);
   state.volumes.push(opened);
-  drawVolumes();
+  byId("volumes").hidden = false;
+  drawFiles();
+  if (state.linked) drawPutting();
 }
 
 /** What a file of a volume is; where the image does not have all of it, why it cannot be taken. */
 async function entryOf(volume, file) {
   try {
-    return await known({name: "", bytes: volume.take(file)});
+    return await given("", volume.take(file));
   } catch (error) {
     if (!(error instanceof VolumeError)) throw error;
     return {bytes: null, what: error.message};
   }
 }
 
-function drawVolumes() {
-  byId("volumes").hidden = state.volumes.length === 0;
-  drawFiles();
-  if (state.linked) drawPutting();
-}
-
-function volumeBox(opened) {
-  const {image, volume, entries} = opened, code = entries.filter(isCode), others = entries.filter((entry) => !isCode(entry));
-  const list = (some, label) => made("ul", {className: "entries", label}, ...some.map((entry) => entryLine(opened, entry)));
-  const codeList = list(code, `Code files of ${volume.name}`), otherList = list(others, `Other files of ${volume.name}`);
-  const close = made("button", {type: "button", textContent: "Close", label: `Close ${shownName(image)}`, onclick: () => closeVolume(opened)});
-  return made("div", {className: "volume"},
-    made("div", {className: "title"}, made("h3", {}, nameOf(`${volume.name}:`)), close),
-    made("p", {className: "quiet"}, nameOf(image), `: ${partsOfVolume(volume)}`),
-    ...[...volume.flaws, ...volume.notes].map((line) => made("p", {className: "warning", textContent: line})),
-    code.length ? codeList : made("p", {textContent: "The volume has no code file."}),
-    ...(others.length ? [made("details", {}, made("summary", {textContent: count(others.length, "other file")}), otherList)] : []));
-}
-
-function entryLine(opened, entry) {
-  const {file, what} = entry, part = (className, textContent) => made("span", {className, textContent});
-  entry.box = made("input", {type: "checkbox", disabled: entry.bytes === null, onchange: () => choose(opened, entry)});
-  return made("li", {}, made("label", {}, entry.box, made("span", {className: "name"}, nameOf(file.name)),
-    part("size", count(file.size, "byte")), part("date", dayOf(file.date)),
-    part("what", `${file.kindName}: ${what.replace(/(^|, )\d+ bytes, /, "$1")}`)));
+/** An entry of a volume as a file of the link. */
+function fileOf(volume, entry) {
+  return {...entry, name: `${volume.name}:${entry.file.name}`, entry};
 }
 
 function choose({volume}, entry) {
-  const {bytes, what, had} = entry, name = `${volume.name}:${entry.file.name}`;
-  if (entry.box.checked) return insert([{name, bytes, what, had, entry}]);
-  state.files = state.files.filter((file) => file.entry !== entry);
-  return changed(`${shownName(name)} is removed.`);
+  const file = fileOf(volume, entry);
+  if (entry.box.checked) return insert([file]);
+  state.files = state.files.filter((other) => other.entry !== entry);
+  return changed(`${shownName(file.name)} is removed.`);
 }
 
+/** Saves a file of a volume as it is there. */
+function saveEntry({volume}, {file, bytes}) {
+  const name = nameOfFile(file.name);
+  saveFile(name, bytes);
+  say(`Saved: ${name} of ${shownName(volume.name)}.`);
+}
+
+/** Closes a volume; its files are of the link no more. */
 function closeVolume(opened) {
+  const isOfIt = ({entry}) => opened.entries.includes(entry), gone = state.files.filter(isOfIt);
+  const names = gone.map(({name}) => shownName(name)).join(", ");
   state.volumes = state.volumes.filter((it) => it !== opened);
+  state.files = state.files.filter((file) => !isOfIt(file));
   opened.box.remove();
-  drawVolumes();
+  byId("volumes").hidden = state.volumes.length === 0;
+  changed(`${shownName(opened.volume.name)} is closed.`, gone.length ? `Removed: ${names}.` : "");
   byId("choose").focus();
-}
-
-// ---- The linked file onto a volume
-
-const hostOf = () => state.files[0];
-
-/** The volume that a person chose, or else that of the host, or else the first. */
-function targetVolume() {
-  return state.volumes.find((opened) => opened === state.target)
-    ?? state.volumes.find(({entries}) => entries.includes(hostOf().entry)) ?? state.volumes[0];
-}
-
-/** A name that a new file of a volume can have. */
-function nameOnVolume(host) {
-  const words = host.replace(/^.*:/, "").toUpperCase().replace(/\.CODE$/, "").replace(/[^A-Z0-9]/g, "");
-  return `${words.slice(0, 5)}.LINK.CODE`;
-}
-
-function drawPutting() {
-  byId("putting").hidden = state.volumes.length === 0;
-  if (state.volumes.length === 0) return;
-  byId("put-volume").replaceChildren(...state.volumes.map(({image, volume}) => made("option", {
-    textContent: `${shownName(volume.name)}: of ${shownName(image)}`})));
-  byId("put-volume").selectedIndex = state.volumes.indexOf(targetVolume());
-  if (!state.isPutNamed) byId("put-name").value = nameOnVolume(hostOf().name);
-  drawPlace();
-}
-
-/** Where the linked file would get on the volume, and the name of the copy. */
-function drawPlace() {
-  const {image, volume, entries} = targetVolume(), name = byId("put-name").value.toUpperCase();
-  const old = entries.find(({file}) => file.name.toUpperCase() === name);
-  const ofHost = old && hostOf().entry === old ? " It is the host: the unlinked host is then in the old image alone." : "";
-  byId("put-what").textContent = old
-    ? `In place of ${shownName(old.file.name)}, ${count(old.file.size, "byte")}, ${dayOf(old.file.date)}.${ofHost}`
-    : `As a new file of ${shownName(volume.name)}.`;
-  byId("put-names").replaceChildren(...entries.filter(isCode).map(({file}) => made("option", {value: file.name})));
-  if (!state.isImageNamed) byId("put-image").value = nameWith(nameOfFile(image), "linked");
-  tellPut("", "");
-}
-
-function tellPut(kind, sentence) {
-  byId("put-told").className = kind;
-  byId("put-told").textContent = sentence;
-  byId("put-told").hidden = !sentence;
-  if (sentence) say(sentence);
-}
-
-function onPut(event) {
-  event.preventDefault();
-  if (!state.linked) return say(NOT_YET);
-  const {image: dropped, volume} = targetVolume(), name = byId("put-name").value, as = byId("put-image").value;
-  try {
-    const {image, first, blocks, replaced} = volume.put(name, state.linked);
-    saveFile(as, image);
-    const place = blocks === 1 ? `block ${first}` : `blocks ${first} to ${first + blocks - 1}`;
-    tellPut("good", `Saved: ${shownName(as)}. On ${shownName(volume.name)}, ${shownName(name.toUpperCase())} is in ${place}, ${
-      replaced ? "in place of the old one" : "as a new file"}. ${shownName(dropped)} is as it was.`);
-  } catch (error) {
-    if (!(error instanceof VolumeError)) throw error;
-    tellPut("bad", `${error.message} Nothing is saved.`);
-  }
-  return undefined;
 }
 
 // ---- The page
@@ -473,7 +433,9 @@ function onPut(event) {
 function openPlace(hash) {
   const place = hash && document.getElementById(hash.slice(1));
   if (!place) return;
-  for (let around = place; around; around = around.parentElement) if (around.localName === "details") around.open = true;
+  for (let around = place; around; around = around.parentElement) {
+    if (around.localName === "details") around.open = true;
+  }
   const told = place.querySelector(":scope > summary") ?? place;
   if (told === place) place.tabIndex = -1;
   place.scrollIntoView();
@@ -484,37 +446,39 @@ function onLink(event) {
   const link = event.target.closest("a[href^='#']");
   if (!link) return;
   event.preventDefault();
+  location.hash = link.hash; // first, so that the way back leads to the place before it
   openPlace(link.hash);
-  location.hash = link.hash; // so that the browser finds the way back
 }
 
 function onDrag(event) {
   event.preventDefault();
-  const isOver = event.type === "dragenter" || event.type === "dragover" || (event.type === "dragleave" && event.relatedTarget !== null);
+  const isWithin = event.type === "dragleave" && event.relatedTarget !== null;
+  const isOver = event.type === "dragenter" || event.type === "dragover" || isWithin;
   byId("drop").classList.toggle("over", isOver);
   if (event.type === "drop") give(event.dataTransfer.files);
 }
 
 function listen() {
-  for (const type of ["dragenter", "dragover", "dragleave", "drop"]) document.documentElement.addEventListener(type, onDrag);
+  for (const type of ["dragenter", "dragover", "dragleave", "drop"]) {
+    document.documentElement.addEventListener(type, onDrag);
+  }
   byId("choose").addEventListener("change", ({target}) => {
     give(target.files);
     target.value = "";
   });
+  byId("sample").addEventListener("click", guarded(onSample));
   byId("files").addEventListener("keydown", onKey);
+  byId("remove-all").addEventListener("click", removeAll);
   byId("saving").addEventListener("submit", guarded(onSave));
-  byId("save-name").addEventListener("input", () => { state.isNamed = true; });
+  byId("save-name").addEventListener("input", () =>
+    { state.namedFor = hostOf().entry ?? hostOf(); });
   byId("putting").addEventListener("submit", guarded(onPut));
-  byId("put-volume").addEventListener("change", ({target}) => {
-    state.target = state.volumes[target.selectedIndex];
-    drawPlace();
-  });
-  byId("put-name").addEventListener("input", () => {
-    state.isPutNamed = true;
-    drawPlace();
-  });
-  byId("put-image").addEventListener("input", () => { state.isImageNamed = true; });
-  for (const details of document.querySelectorAll("#texts details")) details.addEventListener("toggle", guarded(() => drawText(details)));
+  listenToPutting();
+  pictureBox.watch(guarded);
+  byId("save-picture").addEventListener("click", guarded(onSavePicture));
+  for (const details of boxesOfTexts()) {
+    details.addEventListener("toggle", guarded(() => drawText(pslink, details)));
+  }
   document.addEventListener("click", onLink);
   window.addEventListener("hashchange", () => openPlace(location.hash));
 }
@@ -526,10 +490,12 @@ function bytesOf(base64) {
 }
 
 async function start() {
-  terms = [...document.querySelectorAll("#manual-warnings dt")].map(({id, textContent}) => ({id, pattern: patternOf(textContent)}));
+  setTerms([...document.querySelectorAll("#manual-warnings dt")].map(({id, textContent}) => ({
+    id, pattern: patternOf(textContent)})));
   pslink = await load(bytesOf(byId("module").textContent));
-  const release = await pslink.release();
-  byId("release").textContent = `pslink ${Math.floor(release / 10000)}.${Math.floor(release / 100) % 100}.${release % 100}`;
+  const release = await pslink.release(),
+    parts = [10000, 100, 1].map((of) => Math.floor(release / of) % 100);
+  byId("release").textContent = `pslink ${parts.join(".")}`;
   listen();
   openPlace(location.hash);
   byId("starting").hidden = true;

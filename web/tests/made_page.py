@@ -4,6 +4,7 @@ leads out of it, that each link leads to a place in it, and that it is made agai
 language. Prints each difference. Usage: made_page.py MODULE PAGE"""
 import base64
 import hashlib
+import html
 import html.parser
 import os
 import pathlib
@@ -14,7 +15,7 @@ import sys
 import tempfile
 
 ROOT = pathlib.Path(__file__).resolve().parent.parent.parent
-NEEDED = ["web/page", "web/pslink.mjs", "web/volume.mjs", "man/pslink.1", "LICENSE", "NOTICES"]
+NEEDED = ["web/page", *(f"web/{path.name}" for path in (ROOT / "web").glob("*.mjs")), "man/pslink.1", "LICENSE", "NOTICES", "samples/disk.po"]
 # what would make HTML or code of a text
 MAKERS = r"innerHTML|outerHTML|insertAdjacentHTML|createContextualFragment|parseFromString|setHTML|document\.write|\beval\(|new Function|javascript:|srcdoc"
 # what would speak to others, or keep anything
@@ -76,6 +77,9 @@ def tag_flaws(parts):
 
 
 def content_flaws(parts, page, module):
+    for name in ("LICENSE", "NOTICES"):
+        if html.escape((ROOT / name).read_text().strip()) not in page:
+            yield f"it does not have {name}, each character as a text"
     modules = [text for _, given, text in parts.inside if given.get("id") == "module"]
     if len(modules) != 1 or base64.b64decode(modules[0]) != module:
         yield "the module in it is another one"
