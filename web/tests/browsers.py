@@ -18,6 +18,8 @@ import urllib.request
 KEYS = {  # the code of each key, its number, the text that it writes, and its character in WebDriver
     "Enter": ("Enter", 13, "\r", "\ue007"), "Space": ("Space", 32, " ", " "), "Tab": ("Tab", 9, "", "\ue004"),
     "ArrowUp": ("ArrowUp", 38, "", "\ue013"), "ArrowDown": ("ArrowDown", 40, "", "\ue015"), "Delete": ("Delete", 46, "", "\ue017"),
+    "ArrowLeft": ("ArrowLeft", 37, "", "\ue012"), "ArrowRight": ("ArrowRight", 39, "", "\ue014"), "Home": ("Home", 36, "", "\ue011"),
+    "End": ("End", 35, "", "\ue010"), "Escape": ("Escape", 27, "", "\ue00c"),
 }
 ALT, SHIFT = 1, 8
 MIDDLE = """(() => {{ const it = document.querySelector({selector}); it.scrollIntoView({{block: "center"}});
@@ -36,8 +38,8 @@ def opened(name):
 class Browser:
     """A browser with one page, in a room of its own, and the folder to which it saves."""
 
-    # whether it is driven as far as this: a drag from outside, scripts before those of a page, dark and narrow windows
-    has_drags = has_scripts = has_looks = False
+    # whether it is driven as far as this: a drag from outside, scripts before those of a page, dark windows, and windows of any size
+    has_drags = has_scripts = has_looks = has_windows = False
 
     def __init__(self):
         self.room = pathlib.Path(tempfile.mkdtemp(prefix="pslink-page-"))
@@ -105,6 +107,10 @@ class Browser:
             document.querySelector({json.dumps(selector)}).dispatchEvent(new DragEvent(type, {{dataTransfer: moved, bubbles: true, cancelable: true}}));
         }})()""")
 
+    def click_at(self, x, y):
+        """Clicks what is at a place of the window."""
+        self.value(f"document.elementFromPoint({x}, {y}).click()")
+
     def choosing(self, paths, act):
         """Gives files to the button, where the window in which files are chosen cannot be driven."""
         self.give("#choose", paths)
@@ -123,7 +129,7 @@ class Browser:
 class Chromium(Browser):
     """The pipe is the descriptors 3 and 4 of the browser; a message ends with a zero byte."""
 
-    has_drags = has_scripts = has_looks = True
+    has_drags = has_scripts = has_looks = has_windows = True
     WORDS = ["--headless=new", "--no-sandbox", "--disable-gpu", "--remote-debugging-pipe", "--no-first-run", "--disable-background-networking",
              "--disable-component-update", "--hide-scrollbars", "--disable-sync", "--disable-extensions", "--lang=en"]
 
@@ -220,7 +226,9 @@ class Chromium(Browser):
             self.ask("Input.dispatchDragEvent", type=kind, x=x, y=y, data=data)
 
     def click(self, selector):
-        x, y = self.middle(selector)
+        self.click_at(*self.middle(selector))
+
+    def click_at(self, x, y):
         for kind in ("mousePressed", "mouseReleased"):
             self.ask("Input.dispatchMouseEvent", type=kind, x=x, y=y, button="left", clickCount=1)
 
@@ -246,6 +254,14 @@ class Chromium(Browser):
         taken = self.ask("Page.captureScreenshot", format="png", captureBeyondViewport=True, clip=clip)
         path.write_bytes(base64.b64decode(taken["data"]))
 
+    def shot_of(self, selector, path, height):
+        """A picture of a part of the page, of its upper part of this height."""
+        left, top, width, whole = self.value(f"(() => {{ const it = document.querySelector({selector!r}).getBoundingClientRect(); "
+                                             "return [it.left + scrollX, it.top + scrollY, it.width, it.height]; })()")
+        clip = {"x": max(0, left - 16), "y": top, "width": width + 32, "height": min(whole, height), "scale": 1}
+        taken = self.ask("Page.captureScreenshot", format="png", captureBeyondViewport=True, clip=clip)
+        path.write_bytes(base64.b64decode(taken["data"]))
+
     def requested(self):
         return {it["params"]["request"]["url"] for it in self.events if it.get("method") == "Network.requestWillBeSent"}
 
@@ -260,7 +276,7 @@ class Firefox(Browser):
         "browser.helperApps.neverAsk.saveToDisk": "application/octet-stream,application/json,text/plain", "focusmanager.testmode": True,
         "browser.download.alwaysOpenPanel": False, "datareporting.policy.dataSubmissionEnabled": False,
     }
-    has_scripts = True
+    has_scripts = has_windows = True
 
     def __init__(self, browser):
         super().__init__()
@@ -317,10 +333,17 @@ class Firefox(Browser):
         self.ask("input.setFiles", context=self.context, element=self.node(selector), files=[str(it) for it in paths])
 
     def click(self, selector):
+        # (a picture that comes into view is drawn, and moves what is below it)
+        self.middle(selector)
+        self.until("document.body.getAttribute('aria-busy') !== 'true'", 5)
         self.middle(selector)
         where = {"type": "element", "element": self.node(selector)}
         self.ask("input.performActions", context=self.context, actions=[{"type": "pointer", "id": "mouse", "actions": [
             {"type": "pointerMove", "x": 0, "y": 0, "origin": where}, {"type": "pointerDown", "button": 0}, {"type": "pointerUp", "button": 0}]}])
+
+    def click_at(self, x, y):
+        self.ask("input.performActions", context=self.context, actions=[{"type": "pointer", "id": "mouse", "actions": [
+            {"type": "pointerMove", "x": x, "y": y}, {"type": "pointerDown", "button": 0}, {"type": "pointerUp", "button": 0}]}])
 
     def key(self, key, held=0):
         self.ask("input.performActions", context=self.context, actions=self.keys(key, held))

@@ -48,6 +48,7 @@ class Desk:
     def __init__(self, browser, page, program, pictures=None):
         self.browser, self.page, self.program, self.pictures = browser, pathlib.Path(page).resolve(), program, pictures
         self.passed = self.failed = 0
+        self.opened = set()  # what was opened beside the page
 
     def check(self, what, is_right, told=""):
         if is_right:
@@ -125,7 +126,7 @@ class Desk:
 
     def outcome(self):
         """The headline, and the sentences below it; None where there is none."""
-        return self.value("document.getElementById('outcome').hidden ? null : [...document.getElementById('outcome').children].map((it) => it.textContent)")
+        return self.value("document.getElementById('verdict').hidden ? null : [...document.getElementById('outcome').children].map((it) => it.textContent)")
 
     def kind(self):
         return self.value("document.getElementById('outcome').className")
@@ -159,8 +160,9 @@ class Desk:
         return (ran.stdout + ran.stderr).decode()
 
     def wanted_texts(self, folder, kind, names):
-        """What the page is to show: a show of each file, and otherwise one text of all."""
-        return [self.printed(folder, kind, [name]) for name in names] if kind == "show" else [self.printed(folder, kind, names)]
+        """What the page is to show: a show of each file, and otherwise one text of all. The manual is below, on the page."""
+        printed = [self.printed(folder, kind, [name]) for name in names] if kind == "show" else [self.printed(folder, kind, names)]
+        return [re.sub(r" (in|of) pslink\(1\)", " below", text) for text in printed]
 
     def linked(self, folder, names):
         """The linked file by the program, or None."""

@@ -4,7 +4,8 @@
  */
 import assert from "node:assert/strict";
 import {readFileSync} from "node:fs";
-import {linesOf, nameOfFile, nameWith, patternOf, piecesOf, sentencesOf, shownName} from "../page/lines.mjs";
+import {nameOfFile, nameWith, shownName} from "../names.mjs";
+import {linesOf, patternOf, piecesOf, sentencesOf} from "../page/lines.mjs";
 
 const REPORT = `file 0 host: 1536 bytes, little-endian
 pslink: refused 13 MissingUnit file 0 slot 7
@@ -47,7 +48,8 @@ const anchors = (line) => piecesOf(line, terms).filter(({anchor}) => anchor).map
 
 same(linesOf(REPORT).map(({kind}) => kind), KINDS);
 same(linesOf(REPORT).map(({line}) => `${line}\n`).join(""), REPORT);
-for (const {line} of linesOf(REPORT)) same(piecesOf(line, terms).map(({text}) => text).join(""), line);
+const ownWords = (line) => line.replace(/ (in|of) pslink\(1\)/, " below");
+for (const {line} of linesOf(REPORT)) same(piecesOf(line, terms).map(({text}) => text).join(""), ownWords(line));
 same(sentencesOf(REPORT), ["No library has the unit that the slot wants.", "Give a library that has it, after host. If you gave it, see DAMAGED FILES in pslink(1)."]);
 same(sentencesOf("links: segments 2 private words 4 blocks 3\n"), []);
 same(anchors("pslink: refused 13 MissingUnit file 0 slot 7"), [["refused 13 MissingUnit", "manual-diagnostics-13"]]);
@@ -77,4 +79,6 @@ same(nameOfFile("a/b\\c:d*e?f\"g<h>i|j\u0000k"), "a_b_c_d_e_f_g_h_i_j_k");
 same(nameWith("host.code", "linked"), "host.linked.code");
 same(nameWith("a.b.code", "linked"), "a.b.linked.code");
 same(nameWith("host", "linked"), "host.linked");
+same(nameWith("HOST.CODE", "linked"), "HOST.LINKED.CODE");
+same(nameWith("Host.CODE", "linked"), "Host.linked.CODE");
 console.log(`page: lines and links: ${count} passed`);

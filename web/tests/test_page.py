@@ -3,6 +3,7 @@
 Prints each difference, and last 'N passed, M failed'."""
 import argparse
 import pathlib
+import re
 import sys
 import tempfile
 import time
@@ -11,17 +12,10 @@ import browsers
 import desk as desks
 import volumes
 from browsers import ALT
+from page_files import BOXES, HELD, LINKS, MEGABYTE, SAMPLES, at, disk, linked_as, take_both, today
+import page_picture
+import page_points
 
-ROOT = pathlib.Path(__file__).resolve().parent.parent.parent
-SAMPLES = ROOT / "samples"
-MEGABYTE = 1 << 20
-LINKS = ["host.code", "library.code"]
-# one call of the module waits until the test lets it go: the one of this number from now on
-HELD = """(() => { const made = WebAssembly.instantiate; let calls = 0, held = 0;
-  window.hold = (number) => { calls = 0; held = number; };
-  WebAssembly.instantiate = async (...given) => {
-    if (++calls === held) await new Promise((end) => { window.letGo = end; });
-    return made(...given); }; })()"""
 NO_MEMORY = "WebAssembly.Memory.prototype.grow = () => { throw new RangeError('no memory'); };"
 TRAPS = """(() => { const made = WebAssembly.instantiate; WebAssembly.instantiate = async (...given) => {
   const {exports} = await made(...given);
@@ -31,16 +25,6 @@ ODD_NAMES = ["<img src=x onerror=document.title=1>.code", "\"quotes'&amp;.code",
              "<script>document.title=1<", "..code", "zero\u200bwidth.code", "tab\there"]
 SHOWN_NAMES = ["<img src=x onerror=document.title=1>.code", "\"quotes'&amp;.code", "\"two\\nlines.code\"", "\"\\u{202e}gnp.edoc\"", "  .code", "no ending", "déjà ☃.code",
                "<script>document.title=1<", "..code", "\"zero\\u{200b}width.code\"", "\"tab\\there\""]
-
-
-def at(folder, *names):
-    return [folder / name for name in names]
-
-
-def linked_as(desk, name):
-    """Presses the button that saves the linked file, and takes what is saved under this name."""
-    desk.press("#save")
-    return desk.browser.took(name)
 
 
 # ---- Texts and linked files
@@ -77,7 +61,7 @@ def whole(desk, folder, names, kind, units=None):
     desk.same(f"{what}: whether there is a linked file", wanted is not None, desk.is_seen("#saving"))
     if wanted:
         name = names[0].replace(".code", ".linked.code")
-        desk.same(f"{what}: the outcome", desk.summary(folder, names), desk.outcome()[1])
+        desk.check(f"{what}: the outcome", desk.summary(folder, names) in desk.outcome(), desk.outcome())
         desk.same(f"{what}: the linked file", wanted, linked_as(desk, name))
         desk.same(f"{what}: what is told of it", f"Saved: {name}.", desk.told())
     else:
@@ -101,7 +85,8 @@ def texts(desk, folder):
     (folder / "zeros.code").write_bytes(bytes(2048))
     whole(desk, folder, ["warned.code", "padded.code", "zeros.code"], "warned")
     desk.same("warnings: the headline", "The files link, with warnings.", desk.outcome()[0])
-    desk.same("warnings: their number", "The report has 1 warning and 1 note.", desk.outcome()[2])
+    first = [line for line in desk.printed(folder, "check", ["warned.code", "padded.code", "zeros.code"]).splitlines() if line.startswith("warning: ")]
+    desk.same("warnings: the first in its words, and their number", [*first[:1], "The report has 1 warning and 1 note."], desk.outcome()[1:3])
     manual(desk)
 
 
@@ -112,7 +97,7 @@ def documents(desk):
             desk.begin()
             desk.choose(*at(SAMPLES, *LINKS))
             desk.open_texts()
-        wanted = {"txt": desk.wanted_texts(SAMPLES, kind, LINKS)[0], "json": desk.printed(SAMPLES, kind, LINKS[:1] if kind == "show" else LINKS, "--json")}
+        wanted = {"txt": desk.printed(SAMPLES, kind, LINKS[:1] if kind == "show" else LINKS), "json": desk.printed(SAMPLES, kind, LINKS[:1] if kind == "show" else LINKS, "--json")}
         for k, ending in ((1, "txt"), (2, "json")):
             desk.press(f"#texts details[data-text={kind}] .acts button:nth-child({k})")
             saved = desk.browser.took(f"host.{kind}.{ending}")
@@ -150,7 +135,7 @@ def order(desk, folder):
     desk.same("Up moves a file up", LINKS[::-1], desk.order())
     desk.same("the focus stays with the file", "Move library.code down", desk.focus())
     desk.check("a move is told", desk.told().startswith("library.code is now the host. The files are refused. No segment of"), desk.told())
-    desk.check("there is nothing to save then", not desk.is_seen("#keeping"))
+    desk.check("there is nothing to save then", not desk.is_seen("#saving"))
     desk.press("#files li:nth-child(1) .down")
     desk.same("Down moves a file down", LINKS, desk.order())
     desk.same("the focus stays with the file that moved down", "Move library.code up", desk.focus())
@@ -160,7 +145,7 @@ def order(desk, folder):
     desk.check("a removal is told", desk.told().startswith("library.code is removed. The files are refused."), desk.told())
     desk.press("#files li:nth-child(1) .remove")
     desk.same("no file is left", ([], None, "choose"), (desk.order(), desk.outcome(), desk.focus()))
-    desk.check("nothing is shown of no files", not any(map(desk.is_seen, ("#texts", "#keeping", "#outcome"))))
+    desk.check("nothing is shown of no files", not any(map(desk.is_seen, ("#texts", "#saving", "#keeping", "#outcome"))))
     desk.same("that is told", "host.code is removed. There are no files.", desk.told())
     # of two hosts none is put first; the same file twice; and what was written as a name stays
     desk.choose(*at(SAMPLES, "library.code", "host.code", "nine.code"))
@@ -270,33 +255,10 @@ def tab_to(desk, name, most=60):
 
 # ---- Volumes
 
-def disk(folder, name="DISK", **how):
-    """A volume of 280 blocks with the samples, a text, and free blocks between and behind."""
-    contents = [(SAMPLES / it).read_bytes() for it in LINKS]
-    files = [volumes.File("HOST.CODE", 10, 13, 512, 2, volumes.date_word({"year": 1983, "month": 5, "day": 12})),
-             volumes.File("NOTES.TEXT", 14, 18, 512, 3), volumes.File("LIBRARY.CODE", 20, 23, 512, 2)]
-    image = bytearray(how.pop("blocks", 280) * 512)
-    image[10 * 512:13 * 512], image[20 * 512:23 * 512] = contents
-    return volumes.Volume(name, len(image) // 512, files, bytes(image), **how)
-
-
 LISTED = ["DISK:", [["HOST.CODE", "1536 bytes", "1983-05-12", "code: little-endian, host"],
                     ["LIBRARY.CODE", "1536 bytes", "no date", "code: little-endian, library"],
                     ["NOTES.TEXT", "2048 bytes", "no date", "text: little-endian, no segment, a file of the byte 00 alone"]]]
 OF_DISK = ["DISK:HOST.CODE", "DISK:LIBRARY.CODE"]
-BOXES = ".volume .entries li:nth-child({}) label"
-
-
-def take_both(desk):
-    desk.press(BOXES.format(2))
-    desk.press(BOXES.format(1))
-
-
-def today(desk):
-    year, month, day = desk.value("(() => { const now = new Date(); return [now.getFullYear(), now.getMonth() + 1, now.getDate()]; })()")
-    return {"year": year, "month": month, "day": day}
-
-
 def images(desk, folder):
     """Images of each form, in and out."""
     forms = (("disk.po", {}, volumes.in_order), ("disk.dsk", {}, volumes.by_sectors(volumes.BY_DOS)), ("disk.2mg", {}, volumes.two_img(volumes.in_order, 1)),
@@ -318,20 +280,22 @@ def images(desk, folder):
 
 
 def put_there(desk, folder, name, form, volume):
-    """The linked file as a new file, in place of another, and in place of the host."""
+    """The linked file as a new file, in place of another, and in place of the host: each goes onto the copy before it."""
     linked, before = desk.linked(SAMPLES, LINKS), (folder / name).read_bytes()
     copy = name.replace("disk.", "disk.linked.")
-    for on_it, said in (("HOST.LINK.CODE", "As a new file of DISK."), ("library.code", "In place of LIBRARY.CODE, 1536 bytes, no date."),
-                        ("HOST.CODE", "In place of HOST.CODE, 1536 bytes, 1983-05-12. It is the host: the unlinked host is then in the old image alone.")):
-        if on_it != "HOST.LINK.CODE":
+    for on_it, said, warned in (("HOST.L.CODE", "As a new file of DISK.", ""), ("library.code", "In place of LIBRARY.CODE, 1536 bytes, no date.", ""),
+                                ("HOST.CODE", "In place of HOST.CODE, 1536 bytes, 1983-05-12.", "It is the host: the unlinked host is then in the old image alone.")):
+        if on_it != "HOST.L.CODE":
             desk.write("#put-name", on_it)
-        desk.same(f"{name}: {on_it} by itself, and where it gets", (on_it, said), (desk.value("document.getElementById('put-name').value"), desk.text("#put-what")))
+        desk.same(f"{name}: {on_it} by itself, and where it gets", (on_it, said, warned),
+                  (desk.value("document.getElementById('put-name').value"), desk.text("#put-what"), desk.text("#put-warnings")))
         desk.press("#put")
         after, place = volumes.put(volume, on_it, linked, today(desk))
         desk.same(f"{name}: the copy with {on_it}", form(after.bytes()), desk.browser.took(copy))
         how = "in place of the old one" if place["replaced"] else "as a new file"
         desk.same(f"{name}: what is told of {on_it}", f"Saved: {copy}. On DISK, {on_it.upper()} is in blocks {place['first']} to {place['first'] + 2}, {how}. "
                   f"{name} is as it was.", desk.told())
+        volume = after
     desk.same(f"{name}: the image that was given", before, (folder / name).read_bytes())
 
 
@@ -350,9 +314,10 @@ def of_volume(desk, folder):
     desk.same("a box that is cleared removes the file", ["DISK:LIBRARY.CODE"], desk.order())
     desk.press(BOXES.format(1))
     desk.same("the report on files of a volume", [renamed(desk.printed(SAMPLES, "check", LINKS))], desk.shown("check"))
-    desk.same("a linked file of a volume to save", desk.linked(SAMPLES, LINKS), linked_as(desk, "HOST.linked.CODE"))
+    desk.same("a linked file of a volume to save", desk.linked(SAMPLES, LINKS), linked_as(desk, "HOST.LINKED.CODE"))
     desk.press(".volume .title button")
-    desk.same("a volume that is closed", ([], OF_DISK, False, "choose"), (desk.volumes(), desk.order(), desk.is_seen("#putting"), desk.focus()))
+    desk.same("a volume that is closed takes its files along", ([], [], False, "choose"), (desk.volumes(), desk.order(), desk.is_seen("#putting"), desk.focus()))
+    desk.same("that is told", "DISK is closed. Removed: DISK:HOST.CODE, DISK:LIBRARY.CODE. There are no files.", desk.told())
     # a file from outside, and two volumes: the copy is of the one that is chosen
     other = disk(folder, "OTHER")
     (folder / "other.po").write_bytes(other.bytes())
@@ -361,7 +326,7 @@ def of_volume(desk, folder):
     desk.value("(() => { const it = document.getElementById('put-volume'); it.selectedIndex = 1; it.dispatchEvent(new Event('change')); })()")
     desk.same("the name of the copy follows the volume", "other.linked.po", desk.value("document.getElementById('put-image').value"))
     desk.press("#put")
-    after, _ = volumes.put(other, "HOST.LINK.CODE", desk.linked(SAMPLES, LINKS), today(desk))
+    after, _ = volumes.put(other, "HOST.L.CODE", desk.linked(SAMPLES, LINKS), today(desk))
     desk.same("the copy is of the volume that is chosen", after.bytes(), desk.browser.took("other.linked.po"))
 
 
@@ -370,7 +335,7 @@ def renamed(report):
 
 
 def refused(desk, folder):
-    """What cannot be put is told, and nothing is saved."""
+    """What cannot be put is told before the button can be pressed, and nothing is saved."""
     volume = disk(folder, blocks=24)
     volume.files += [volumes.File("FULL.DATA", 6, 10, 512, 5), volumes.File("FULLER.DATA", 18, 19, 512, 5)]
     volume.files.sort(key=lambda file: file.first)
@@ -385,9 +350,10 @@ def refused(desk, folder):
         desk.choose(*at(SAMPLES, *LINKS), folder / name)
         desk.write("#put-name", on_it)
         before = sorted(desk.browser.saved.iterdir())
-        desk.press("#put")
-        told = desk.text("#put-told")
-        desk.check(f"{name}: {on_it} is refused", told.startswith(said) and told.endswith(" Nothing is saved.") and desk.told() == told, told)
+        told = desk.text("#put-what")
+        desk.check(f"{name}: {on_it} is refused", told.startswith(said) and desk.value("document.getElementById('put').disabled"), told)
+        desk.browser.click("#put-name")
+        desk.key("Enter")
         desk.same(f"{name}: {on_it} is not saved", before, sorted(desk.browser.saved.iterdir()))
     # an image that is no volume, and one that ends before a file does
     (folder / "short.po").write_bytes(disk(folder).bytes()[:21 * 512])
@@ -418,7 +384,7 @@ def larger(desk, folder):
     desk.choose(folder / "large.po")
     take_both(desk)
     desk.press("#put")
-    after, _ = volumes.put(volume, "HOST.LINK.CODE", desk.linked(SAMPLES, LINKS), today(desk))
+    after, _ = volumes.put(volume, "HOST.L.CODE", desk.linked(SAMPLES, LINKS), today(desk))
     desk.check("20 MB: the copy of an image", after.bytes() == desk.browser.took("large.linked.po"))
 
 
@@ -433,13 +399,13 @@ def failures(desk, folder):
         desk.begin()
         desk.choose(*at(SAMPLES, *LINKS))
         desk.same("a module that fails", ([headline, sentence], "bad"), (desk.outcome()[:2], desk.kind()))
-        desk.check("a module that fails is told, and nothing can be saved", headline in desk.told() and not desk.is_seen("#keeping"), desk.told())
+        desk.check("a module that fails is told, and nothing can be saved", headline in desk.told() and not desk.is_seen("#saving"), desk.told())
         desk.browser.no_more(before)
     desk.same("what the browser says of it", "The browser says: unreachable", desk.outcome()[2])
     before = desk.browser.before_each_page(NO_MODULE)
     desk.browser.go("about:blank")
     desk.browser.go(desk.page.as_uri())
-    desk.browser.until("document.getElementById('outcome')?.hidden === false")
+    desk.browser.until("document.getElementById('verdict')?.hidden === false")
     desk.same("a browser that takes no module", ["This page failed.", "this browser compiles nothing", "Load the page again. The files are as they were."], desk.outcome())
     desk.browser.no_more(before)
 
@@ -452,8 +418,8 @@ def late(desk, folder):
     desk.begin()
     desk.choose(SAMPLES / "host.code")
     desk.open_texts()
-    # a file that is added is looked at by two calls; then come the link, the report, and the units that the host wants; and then the texts
-    for call, what in ((3, "a link that comes late"), (4, "a report that comes late"), (7, "a map that comes late"), (11, "a show that comes late")):
+    # a file that is added is looked at by three calls; then come the link, the report, and the units that the host wants; and then the texts
+    for call, what in ((4, "a link that comes late"), (5, "a report that comes late"), (8, "a map that comes late"), (12, "a show that comes late")):
         desk.value(f"hold({call})")
         desk.browser.give("#choose", [SAMPLES / "library.code"])
         desk.check(f"{what}: it waits", desk.browser.until("document.querySelectorAll('#files li').length === 2 && Boolean(window.letGo)"))
@@ -490,7 +456,7 @@ def is_refused(desk, what):
 LOOKS = (  # (the width, whether it is dark, the files, and a picture with its height)
     (1000, False, ["host.code", "library.code"], "links.png", 1180),
     (1000, True, ["host.code"], "refused.png", 1180),
-    (1000, False, ["disk.po"], "volume.png", 1480),
+    (1000, False, ["disk.po"], "volume.png", 1540),
     (380, False, ["host.code", "library.code"], "narrow.png", 1400),
     (320, True, ["host.code", "disk.po"], None, None),
 )
@@ -498,18 +464,18 @@ LOOKS = (  # (the width, whether it is dark, the files, and a picture with its h
 
 def looks(desk, folder):
     """Contrast, room and names in light and dark, wide and narrow; and the pictures."""
-    (folder / "disk.po").write_bytes(disk(folder).bytes())
     for width, is_dark, files, picture, height in LOOKS:
         desk.browser.look(width, 900, is_dark)
         desk.begin()
-        desk.choose(*((folder if name == "disk.po" else SAMPLES) / name for name in files))
+        desk.choose(*at(SAMPLES, *files))
         if files[0] == "disk.po":
             take_both(desk)
         what = f"{width} wide, {'dark' if is_dark and desk.browser.has_looks else 'light'}, {' '.join(files)}"
         if desk.pictures and picture and desk.browser.has_looks:
             desk.value("document.activeElement.blur()")
             desk.browser.shot(desk.pictures / picture, height)
-        desk.value("document.querySelectorAll('details').forEach((it) => { it.open = true; })")
+        # (at the top of the page, where the verdict is not above what is scrolled)
+        desk.value("(() => { document.querySelectorAll('details').forEach((it) => { it.open = true; }); scrollTo(0, 0); })()")
         desk.settle()
         desk.same(f"{what}: no text is hard to read", [], desk.value(desks.CONTRASTS))
         desk.same(f"{what}: nothing overlaps", [], desk.value(desks.OVERLAPS))
@@ -525,7 +491,7 @@ def closed(desk, folder):
     # (WebDriver does not tell what WebKitGTK asks for, nor BiDi which files Firefox reads)
     desk.begin()
     urls = {it for it in desk.browser.requested() if not it.startswith(("blob:", "about:", "data:"))}
-    desk.same("nothing was requested but the page", set(), urls - {desk.page.as_uri()})
+    desk.same("nothing was requested but the page", set(), urls - {desk.page.as_uri(), *desk.opened})
     desk.check("the browser tells what is requested", desk.page.as_uri() in urls or not desk.browser.has_looks)
     desk.same("the browser has no complaint", [], desk.browser.complaints())
     tried = """(async () => {
@@ -549,11 +515,16 @@ def footer(desk, folder):
     desk.begin()
     version = desk.run(folder, "--version").stdout.decode().strip()
     desk.same("the release", version, desk.text("#release"))
+    foot = desk.text("footer")
+    desk.check("the foot says where the newest release stands", f"This page is of the release {version}. The newest stands in the repository of pslink, in its folder releases" in foot, foot)
+    desk.check("the foot asks for files", "drop them on this page, save the report as JSON, and attach all to an issue" in foot, foot)
+    words = desk.value("[...document.querySelectorAll('main, footer > p')].map((it) => it.textContent).join(' ')")
+    desk.same("no word of the page is the name of a manual page", [], re.findall(r"pslink\(\d\)", words))
     for word in ("Proved", "Tested only", "Trusted"):
         desk.check(f"the foot has {word}", f"{word}:" in desk.text("footer"))
 
 
-PARTS = [texts, order, dropped, keyboard, images, failures, late, footer, looks, closed]
+PARTS = [texts, order, dropped, keyboard, images, failures, late, footer, looks, *page_points.PARTS, *page_picture.PARTS, closed]
 
 
 def arguments():

@@ -1,14 +1,17 @@
 #!/usr/bin/env python3
 """Plants bugs in copies of volume.mjs, one in each, and sees that volume_test.mjs or volume_hostile.mjs tells it. Prints what told each,
-and each that nothing tells. Usage: volume_bugs.py [PART], of the bugs whose name has PART; it takes seconds for each.
+and each that nothing tells; so for volume_command.mjs by volume_command_test.mjs. Usage: volume_bugs.py [PART], of the bugs whose name
+has PART; it takes seconds for each.
 volume_bugs.py --texts only sees that volume.mjs has the text of each"""
 import pathlib
+import shutil
 import subprocess
 import sys
 import tempfile
 
 TESTS = pathlib.Path(__file__).resolve().parent
 SOURCE = (TESTS.parent / "volume.mjs").read_text()
+COMMAND = (TESTS.parent / "volume_command.mjs").read_text()
 RANDOM_VOLUMES, HOSTILE_IMAGES = "60", "1500"
 
 # What is wrong, the text in volume.mjs, and the text in its place.
@@ -43,8 +46,8 @@ BUGS = [
     # the entry
     ("last bytes off by one", "contents.length - BLOCK * (blocks - 1),", "contents.length - BLOCK * (blocks - 1) - 1,"),
     ("last bytes 0 for a whole block", "contents.length - BLOCK * (blocks - 1),", "contents.length % BLOCK,"),
-    ("blocks rounded down", "blocks = Math.ceil(contents.length / BLOCK)", "blocks = Math.floor(contents.length / BLOCK) || 1"),
-    ("a block too many", "blocks = Math.ceil(contents.length / BLOCK)", "blocks = Math.floor(contents.length / BLOCK) + 1"),
+    ("blocks rounded down", "blocks = Math.ceil(length / BLOCK)", "blocks = Math.floor(length / BLOCK) || 1"),
+    ("a block too many", "blocks = Math.ceil(length / BLOCK)", "blocks = Math.floor(length / BLOCK) + 1"),
     ("the last block in place of the block after it", "[2, first + blocks]", "[2, first + blocks - 1]"),
     ("a text file", "[4, CODE_KIND]", "[4, 3]"),
     ("the name in the letters that were given", "newEntry(capitals(name),", "newEntry(name,"),
@@ -123,10 +126,20 @@ BUGS = [
     ("one of two files of a name is replaced", "if (had.length > 1) throw", "if (false) throw"),
     ("a name with a blank can be put", "[A-Za-z0-9._/\\\\-]{1,15}", "[A-Za-z0-9. _/\\\\-]{1,15}"),
     ("a name of 16 characters can be put", "\\\\-]{1,15}", "\\\\-]{1,16}"),
-    ("a file of no bytes can be put", "if (!contents.length) throw", "if (false) throw"),
+    ("a place says that no file is replaced", "blocks, old};\n  }", "blocks, old: null};\n  }"),
+    ("a file of no bytes can be put", "if (!length) throw", "if (false) throw"),
     ("no limit of the files that are read", "Math.min(this.count, FILES_MAX)", "this.count"),
     ("a name beyond the entry is read", "length <= most ? String", "true ? String"),
     ("an image that ends in the directory is read", "if (image.blocks < block + DIRECTORY_BLOCKS) return [];", ""),
+]
+
+
+# The same of volume_command.mjs, which volume_command_test.mjs is to tell.
+COMMAND_BUGS = [
+    ("a file whose name ends with a dot is written", "/[. ]$/.test(name)", "/[ ]$/.test(name)"),
+    ("a file whose name ends with a blank is written", "/[. ]$/.test(name)", "/[.]$/.test(name)"),
+    ("a file of another folder is written", '\\u001f"*/:<>', '\\u001f"*:<>'),
+    ("a file that is there is lost", "if (isThere(name)) throw", "if (false) throw"),
 ]
 
 
@@ -146,7 +159,9 @@ def told_by(cases, module):
 
 def without_text():
     """The bugs that cannot be planted, since volume.mjs has their text not once."""
-    return [f"'{what}' cannot be planted: volume.mjs has its text {SOURCE.count(text)} times" for what, text, _ in BUGS if SOURCE.count(text) != 1]
+    return [f"'{what}' cannot be planted: {name} has its text {source.count(text)} times"
+            for name, source, bugs in (("volume.mjs", SOURCE, BUGS), ("volume_command.mjs", COMMAND, COMMAND_BUGS))
+            for what, text, _ in bugs if source.count(text) != 1]
 
 
 def untold(bugs):
@@ -163,6 +178,21 @@ def untold(bugs):
     return count
 
 
+def untold_of_command(bugs):
+    """The same of the bugs of volume_command.mjs."""
+    count = 0
+    for what, text, other in bugs:
+        with tempfile.TemporaryDirectory() as folder:
+            for path in TESTS.parent.glob("*.mjs"):
+                shutil.copy(path, folder)
+            (pathlib.Path(folder) / "volume_command.mjs").write_text(COMMAND.replace(text, other))
+            status, printed = run(TESTS / "volume_command_test.mjs", folder)
+        lines = [line for line in printed.splitlines() if "Error" in line]
+        count += status == 0
+        print(f"volume: {what}: {(lines or ['it fails'])[0][:140] if status else 'NOTHING TELLS IT'}", flush=True)
+    return count
+
+
 def main():
     part = sys.argv[1] if len(sys.argv) > 1 else ""
     found = without_text()
@@ -170,10 +200,10 @@ def main():
         print(f"volume: {line}")
     if found or part == "--texts":
         return 1 if found else 0
-    bugs = [bug for bug in BUGS if part in bug[0]]
-    count = untold(bugs)
-    print(f"volume: {len(bugs)} planted bugs, {count} that nothing tells")
-    return 1 if count or not bugs else 0
+    bugs, of_command = ([bug for bug in some if part in bug[0]] for some in (BUGS, COMMAND_BUGS))
+    count = (untold(bugs) if bugs else 0) + untold_of_command(of_command)
+    print(f"volume: {len(bugs) + len(of_command)} planted bugs, {count} that nothing tells")
+    return 1 if count or not bugs + of_command else 0
 
 
 sys.exit(main())

@@ -75,12 +75,16 @@ function putOnce(what, volume, step) {
   puts++;
   if (step.refused) {
     refuses(what, step.refused, () => volume.put(step.name, contents, {date}));
+    refuses(`${what}: its place`, step.refused, () => volume.place(step.name, contents.length));
     return null;
   }
   const made = tried(what, () => volume.put(step.name, contents, {date}));
   if (!made) return null;
   const {image, ...answer} = made;
   same(`${what}: the answer`, answer, step.answer);
+  const {old, ...place} = volume.place(step.name, contents.length);
+  same(`${what}: its place`, {...place, replaced: old !== null}, step.answer);
+  if (old) same(`${what}: what it replaces`, old.name.toUpperCase(), step.name.toUpperCase());
   sameBytes(`${what}: the image`, image, unpacked(step.image));
   sameBytes(`${what}: the bytes that were put`, contents, given);
   const after = tried(`${what}: opened again`, () => openVolume(image));
