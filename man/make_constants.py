@@ -211,11 +211,11 @@ def script():
 
 
 def calls_in_python():
-    """The calls for names of units as Python has them, each with what is said of it in lines of at most 120 characters."""
+    """The calls for names of units as Python has them, each with what is said of it in lines of at most 100 characters."""
     for kind in NAMES:
         first, more = kind.names
         given, files = ("file: File", "file") if kind.is_of_host else ("host: File, libs: Iterable[File] = ()", "host, libs")
-        said = [f'"""{first}, as \'UTIL\'.', "", *textwrap.wrap(f"{more} Raises what `show` raises.", 116, break_on_hyphens=False), '"""']
+        said = [*textwrap.wrap(f'"""{first}, as \'UTIL\'.', 96, break_on_hyphens=False), "", *textwrap.wrap(f"{more} Raises what `show` raises.", 96, break_on_hyphens=False), '"""']
         yield f"def units_{kind.word}({given}) -> List[str]:\n"
         yield from (f"    {line}".rstrip() + "\n" for line in said)
         yield f'    return _Files({files}).units(_NAMES["{kind.word}"])\n\n\n'

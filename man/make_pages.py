@@ -127,7 +127,7 @@ class Document:
     """A document by its headings."""
 
     def __init__(self, name):
-        self.text = (DOCS / name).read_text()
+        self.text = release.without_line((DOCS / name).read_text())
 
     def section(self, title):
         """The lines below the heading with this title, up to the next heading."""
@@ -235,7 +235,7 @@ def main():
     pages = {
         "pslink.1": with_parts((HERE / "pslink.1").read_text()),
         "pslink.3": with_parts((HERE / "pslink.3").read_text()),
-        "pslink.5": HEAD + "\n".join(page((DOCS / "FORMAT.md").read_text().splitlines()[1:])) + "\n" + FOOT,
+        "pslink.5": HEAD + "\n".join(page(release.without_line((DOCS / "FORMAT.md").read_text()).splitlines()[1:])) + "\n" + FOOT,
     }
     for name, manual in pages.items():
         (folder / name).write_text(dated(manual))
