@@ -1,6 +1,9 @@
 # make try: links the samples by the program before any proof
 # make try-test: runs tests before any proof
 # make demo: proves and builds pslink, two crates at a time, or SIDE=N, and links two samples
+# make check: looks at a change without proving anything: how files are laid out, what is made of other files, links and sentences of pages, commits
+# make format: lays out the files in Rattle, Python and JavaScript
+# make generated: makes anew what scripts make of other files
 # make test: the gate, which proves and tests everything
 # make lib: proves and builds the library for C
 # make install PREFIX=/opt/pslink: installs the program, the library, their manual pages, the documents, the samples and the bindings; without PREFIX in /usr/local; the library in LIBDIR, which is PREFIX/lib
@@ -8,6 +11,7 @@
 # make install-library PREFIX=..: installs the library, its header and manual page, what pkg-config and CMake read, the documents, the samples and the bindings, without building the program
 # make uninstall PREFIX=/opt/pslink: removes what that installed
 # make page: proves and builds the library for WebAssembly, web/out/pslink.wasm, and the page with it, web/out/pslink.html
+# make everywhere: proves and builds the command for other systems, in everywhere/out: Linux on aarch64, Windows, node, and C for what else there is
 # make dist: packs the same for people without the kit
 # make release: makes the files of a release, in releases/VERSION: the archive of make dist, the page, the module for a browser and for node, and their sums
 # make vectors: writes the cases of vectors/README.md
@@ -49,7 +53,7 @@ BESIDE = README.md CHANGES.md LICENSE NOTICES $(addprefix samples/,$(SAMPLES)) $
 	$(addprefix bindings/rust/,Cargo.toml build.rs LICENSE src/lib.rs src/file.rs src/finding.rs src/name.rs src/raw.rs src/reason.rs tests/calls.rs) \
 	$(wildcard bindings/rust/tests/samples/*)
 
-.PHONY: try try-test demo build lib test bench vectors install install-program install-library install-built install-built-program install-built-library install-documents install-texts uninstall dist release page
+.PHONY: try try-test demo build lib check format generated test bench vectors install install-program install-library install-built install-built-program install-built-library install-documents install-texts uninstall dist release page everywhere
 
 # the commands that are tried: a file for each, with a word of it a line
 TRIED = $(PROGRAM)/out/tried
@@ -80,6 +84,15 @@ build:
 	    $(MAKE) --no-print-directory -j $(SIDE) -f crates.mk TOP=$(notdir $(PROGRAM)) LAST='rt run -- --version'; \
 	fi
 
+check:
+	@status=0; for part in style generated 'documents --read' commits; do .ci/$$part || status=1; done; exit $$status
+
+format:
+	.ci/style --write
+
+generated:
+	.ci/generated --write
+
 test:
 	.ci/run
 
@@ -93,6 +106,11 @@ lib:
 page:
 	web/build
 	python3 -B web/page/make_page.py
+
+# (where nothing that it is made from changed, nothing is built again; the part `c` has the module of `make page` in it)
+everywhere:
+	web/build
+	everywhere/build
 
 bench: build lib
 	python3 bench/large_files.py "$(BINARY)"
@@ -117,10 +135,11 @@ install-built-program: install-documents install-texts
 	install -m 644 man/pslink.1 "$(DESTDIR)$(MAN)/man1/pslink.1"
 	install -m 644 man/pslink.5 "$(DESTDIR)$(MAN)/man5/pslink.5"
 
-# the documents, the samples, and the sources of the bindings
+# the documents, the samples, and the sources of the bindings; README links to the files of the release, which stay where they are
 install-documents:
 	library/folders "$(DESTDIR)" "$(DOC)"
 	for file in $(BESIDE); do install -D -m 644 $$file "$(DESTDIR)$(DOC)/$$file" || exit 1; done
+	sed -i 's|](releases/[0-9][^)]*)|](releases/README.md)|' "$(DESTDIR)$(DOC)/README.md"
 
 # the test vectors, and what shells, make and CMake read
 install-texts:

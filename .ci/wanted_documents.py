@@ -161,6 +161,20 @@ def opened(data):
     return linker.CodeFile(data, 0, order or "little")
 
 
+def read_to_list(data):
+    """OUTPUT.md, List, ORDER: the file, read in the order in which a slot with a name has its code, where no kind says it."""
+    if linker.order_of(data) is None and len(data) >= linker.BLOCK:
+        little, big = (linker.CodeFile(data, 0, order) for order in ("little", "big"))
+        return big if has_code(big) and not has_code(little) else little
+    return opened(data)
+
+
+def has_code(file):
+    """A slot with a name has its code in the file."""
+    named_slots = [slot for slot in file.slots if slot.is_filled and slot.name not in linker.BLANK]
+    return any(fault_of_step(linker.code_of, slot, slot.index) is None for slot in named_slots)
+
+
 def show_document(data):
     """OUTPUT.md, Show."""
     file = opened(data)
@@ -203,10 +217,10 @@ def shown_record(record, units):
 def is_code_file(file):
     """OUTPUT.md, List: an entry has a kind up to 7 and a name of bytes that ASCII prints, zeros and bytes above 127; where all kinds are 0,
     one with a name has its code."""
+    if not any(slot.kind for slot in file.slots):
+        return has_code(file)
     named_slots = [slot for slot in file.slots if slot.is_filled and slot.name not in linker.BLANK]
-    if any(slot.kind for slot in file.slots):
-        return any(slot.kind <= 7 and READABLE.issuperset(slot.name) for slot in named_slots)
-    return any(fault_of_step(linker.code_of, slot, slot.index) is None for slot in named_slots)
+    return any(slot.kind <= 7 and READABLE.issuperset(slot.name) for slot in named_slots)
 
 
 def fault_of_step(step, *arguments):
@@ -236,7 +250,7 @@ def type_of(data, types):
         return types[data]
     if len(set(data)) == 1:
         return f"a file of the byte {data[0]:02X} alone"
-    is_code = fault_of_step(opened, data) is None and is_code_file(opened(data))
+    is_code = fault_of_step(opened, data) is None and is_code_file(read_to_list(data))
     return None if is_code else "no code file of a known form"
 
 
@@ -249,7 +263,7 @@ def list_item(path, data, with_units, types):
     if fault := fault_of_step(opened, data):
         item["fault"] = fault_of(fault, None)
     else:
-        file = opened(data)
+        file = read_to_list(data)
         item |= {"order": file.order, "contents": contents_of(file)}
         slots = [] if item["type"] else [slot for slot in file.slots if slot.role != EMPTY]
     item["segments"] = Lines(listed(slot) for slot in slots)
