@@ -1,45 +1,15 @@
 -- The fault that is first is about what has the name that is computed.
-use Rattle.std.proofs.Common.{◌≡◌, ◌∙◌, ◌<◌, ◌≤◌, ◌∷◌, ◌⊎◌, ℕ, Bool, true, false, List, take, Option, Some, None, Result, Ok, arith, ap, inl, inr, refl, subst, sym}
-use Rattle.std.proofs.lemmas.Option.{some_pair_parts}
-use Rattle.std.specs.List.{slice_get}
-use Rattle.std.specs.Option.{option_map_or}
-use Rattle.std.specs.Prelude.{if◌then◌else◌}
-use Rattle.std.specs.Result.{result_ok}
-use Rattle.ps_words.specs.FaultPlaces.{in_file, in_record, is_unread, read_record}
+use Rattle.ps_laws.proofs.Vocabulary.{◌≡◌, ◌∙◌, ◌<◌, ◌≤◌, ◌∷◌, ◌⊎◌, ℕ, Bool, true, false, List, take, Option, Some, None, Result, Ok, arith, ap, inl, inr, refl, subst, sym, some_pair_parts, slice_get, option_map_or, result_ok, in_file, in_record, in_slot, Fault, Reason, Order, entry_at, is_empty, is_host, SLOTS, Entry, Role, bad, Body, PublRef, Record, added_segments, segments, sources_fault, reading_fault, Segment, file_at, host_of, library_file, order_of, own_segments, source_of, HasRole, SlotHas, UnitReference, IsFirst, StandsIn, OfAdded, OfDataSize, OfDefinitions, OfHost, OfLibraries, OfNoHost, OfPrivates, OfReferences, OfSlots, OfSources, Step, key, turn, PrivateHas, RecordHas, ReferenceHas, IsRequested, IsSegment, CodeFault, EntryFault, Before, IsOfLink, in_empty}
+use Rattle.ps_words.specs.FaultPlaces.{is_unread, read_record}
 use Rattle.ps_words.specs.FaultText.{number_of}
-use Rattle.ps_words.specs.declared.fault.Fault.{Fault}
-use Rattle.ps_words.specs.declared.fault.Reason.{Reason}
 use Rattle.ps_words.specs.declared.fault.Reason.TheVariants as reason
-use Rattle.ps_words.specs.declared.order.Order.{Order}
-use Rattle.ps_codefile.specs.Dictionary.{entry_at}
-use Rattle.ps_codefile.specs.Roles.{is_empty, is_host}
-use Rattle.ps_codefile.specs.declared.dictionary_layout.TheConstants.{SLOTS}
-use Rattle.ps_codefile.specs.declared.entry.Entry.{Entry}
-use Rattle.ps_codefile.specs.declared.entry.Role.{Role}
 use Rattle.ps_codefile.specs.declared.entry.Role.TheVariants as role
-use Rattle.ps_linkinfo.specs.Records.{bad}
-use Rattle.ps_linkinfo.specs.declared.record.Body.{Body}
-use Rattle.ps_linkinfo.specs.declared.record.Body.TheVariants.{PublRef}
-use Rattle.ps_linkinfo.specs.declared.record.LinkRecord.{LinkRecord as Record}
-use Rattle.ps_reading.specs.Added.{added_segments, empty_slots, segment_at, segments}
+use Rattle.ps_reading.specs.Added.{empty_slots}
 use Rattle.ps_reading.specs.FaultNames.{fault_name}
-use Rattle.ps_reading.specs.Faults.{host_fault, libraries_fault, sources_fault}
-use Rattle.ps_reading.specs.Readings.{reading_fault}
-use Rattle.ps_reading.specs.Sources.{Segment, file_at, host_of, library_file, order_of, own_segments, source_of}
-use Rattle.ps_reading.specs.Standing.Slots.{HasRole, SlotHas}
-use Rattle.ps_reading.specs.declared.reading.added.UnitReference.{UnitReference}
-use Rattle.ps_resolve.specs.Standing.{IsFirst, StandsIn}
-use Rattle.ps_resolve.specs.Standing.Keys.{OfAdded, OfDataSize, OfDefinitions, OfHost, OfLibraries, OfNoHost, OfPrivates, OfReferences, OfSlots, OfSources, Step, key, turn}
-use Rattle.ps_resolve.specs.Standing.Privates.{PrivateHas}
-use Rattle.ps_resolve.specs.Standing.References.{RecordHas, ReferenceHas}
-use Rattle.ps_resolve.specs.Standing.Rounds.{IsRequested}
-use Rattle.ps_resolve.specs.Standing.Segments.{IsSegment}
-use Rattle.ps_resolve.specs.Standing.Sources.{CodeFault, EntryFault}
-use Rattle.ps_resolve.specs.First.{Before}
-use Rattle.ps_reading.specs.OfLink.{IsOfLink}
+use Rattle.ps_reading.specs.Faults.{host_fault, libraries_fault}
 use Rattle.ps_laws.proofs.AddedUnits.{given, split_at}
 use Rattle.ps_laws.proofs.FaultParts.{record_reason}
-use Rattle.ps_laws.proofs.Items.{find_in, find_passes, of_take}
+use Rattle.ps_lists.proofs.Items.{find_in, find_passes, of_take}
 use Rattle.ps_laws.proofs.Least.{Least, this}
 use Rattle.ps_laws.proofs.OfLink.{of_link}
 use Rattle.ps_laws.proofs.OneName.{of_segments}
@@ -48,8 +18,7 @@ use Rattle.ps_laws.proofs.Segments.{own_in_slot}
 use Rattle.ps_laws.proofs.Sources.{OneStop, step_5}
 use Rattle.ps_laws.proofs.Steps.{step_1, step_4}
 use Rattle.ps_laws.proofs.Whole.{unread}
-use Rattle.ps_reading.proofs.OfRounds.{in_empty}
-use Rattle.ps_fault_laws.specs.About.{IsAbout, IsNameInRecord, IsNameOfSlot, IsOfUnread}
+use Rattle.ps_fault_laws.specs.About.{HasSlotAlone, IsAbout, IsNameInRecord, IsNameOfSlot, IsOfUnread}
 use Rattle.ps_fault_laws.proofs.ReadNames.{named_by_entry, named_by_record, named_by_request}
 use Rattle.ps_fault_laws.proofs.RequestedNames.{requested_at}
 
@@ -63,12 +32,8 @@ pub between_unread : (why : Reason) → 19 ≤ number_of why → number_of why �
 between_unread why low high = grind arith
 
 -- the record of a fault, where it was read
-either : (b : Bool) (o : Option ℕ) → o ≡ None → (if b then None else o) ≡ None
-either true o none = refl
-either false o none = none
-
 none_read : (f : Fault) → (f.rec ≡ None) ⊎ IsOfUnread f → read_record f ≡ None
-none_read f (inl none) = either (is_unread f.reason) f.rec none
+none_read f (inl none) = grind arith
 none_read f (inr t) = rw (between_unread f.reason t.0 t.1) refl
 
 one_read : (f : Fault) (rec : ℕ) → f.rec ≡ Some rec → is_unread f.reason ≡ false
@@ -91,20 +56,16 @@ module _ (host : List ℕ) (libs : List (List ℕ)) where
     of_file = λ e. refl;
   })
 
-  of_slot : (f : Fault) (slot : ℕ) → f.slot ≡ Some slot → (f.rec ≡ None) ⊎ IsOfUnread f
-      → (of : List ℕ) → IsNameOfSlot (order_of host) host libs slot of
+  of_slot : (f : Fault) (slot : ℕ) → HasSlotAlone f slot → (of : List ℕ)
+      → IsNameOfSlot (order_of host) host libs slot of
       → fault_name host libs f ≡ Some of → IsNamed f
-  of_slot f slot at none of has is = record {
+  of_slot f slot (at, none) of has is = record {
     in_record = λ rec h. absurd (elim none [
       | inl e ↦ (let u = h.0 in cc)
       | inr t ↦ h.1 t
     ]);
-    in_slot = λ other h. (
-      of,
-      subst (λ (i : ℕ). IsNameOfSlot (order_of host) host libs i of)
-          (let e = h.0 in cc) has,
-      is,
-    );
+    in_slot = λ other h. let same : slot ≡ other = (let u = h.0 in cc) in
+        (of, rw same at has, is);
     of_file = λ e. absurd (cc);
   }
 
@@ -113,12 +74,8 @@ module _ (host : List ℕ) (libs : List (List ℕ)) where
       → IsNameInRecord (order_of host) host libs f rec of
       → fault_name host libs f ≡ Some of → IsNamed f
   of_record f slot rec at e read of has is = record {
-    in_record = λ other h. (
-      of,
-      subst (λ (i : ℕ). IsNameInRecord (order_of host) host libs f i of)
-          (let u = h.0 in cc) has,
-      is,
-    );
+    in_record = λ other h. let same : rec ≡ other = (let u = h.0 in cc) in
+        (of, rw same at has, is);
     in_slot = λ other h. absurd (elim h.1 [
       | inl none ↦ cc
       | inr t ↦ not_unread f read t
@@ -137,8 +94,7 @@ not_before : (s t : Step) (f g : Fault) → turn t < turn s → Before (key s f)
 not_before s t f g lt b =
     let a = key_turn s f in
     let c = key_turn t g in
-    elim (subst (λ (k : List ℕ). Before k (turn t ∷ c.0)) a.1
-    (subst (λ (k : List ℕ). Before (key s f) k) c.1 b)) [
+    elim (rw (a.1, c.1) at b) [
       | inl less ↦ omega (arith, lt, less)
       | inr u ↦ (let same = u.0 in omega (arith, lt, same))
     ]
@@ -170,30 +126,27 @@ empty_is r h = grind arith
 host_role : (r : Role) → is_host r ≡ true → r ≡ role.Host
 host_role r h = grind arith
 
--- the parts of a fault of a library's entries, of a code, its tables and its records
+-- a fault of a slot, and so one of a library's entries, of a code, its tables and its records
+alone : (f : Fault) (file slot : ℕ) (why : Reason) → f ≡ in_slot file slot why
+    → HasSlotAlone f slot
+alone f file slot why is = (rw is refl, inl (rw is refl))
+
 of_entries : (order : Order) (name : List ℕ) (libs : List (List ℕ)) (slot : ℕ) (f : Fault)
-    → EntryFault order name libs slot f → (f.slot ≡ Some slot) × (f.rec ≡ None)
-of_entries order name libs slot f t =
-    (ap (λ (g : Fault). g.slot) t.3.1.1, ap (λ (g : Fault). g.rec) t.3.1.1)
+    → EntryFault order name libs slot f → HasSlotAlone f slot
+of_entries order name libs slot f t = alone f _ slot _ t.3.1.1
 
 unread_reason : (order : Order) (bytes : List ℕ) (why : Reason) → bad order bytes ≡ Some why
     → is_unread why ≡ true
-unread_reason order bytes why = record_reason (λ why. is_unread why ≡ true) refl refl refl refl
-    refl order bytes why
+unread_reason = record_reason (λ why. is_unread why ≡ true) refl refl refl refl refl
 
 of_code : (order : Order) (file : List ℕ) (k : ℕ) (e : Entry) (slot : ℕ) (r : Role)
-    (f : Fault) → CodeFault order file k e slot r f
-    → (f.slot ≡ Some slot) × ((f.rec ≡ None) ⊎ IsOfUnread f)
-of_code order file k e slot r f (inl t) =
-    (ap (λ (g : Fault). g.slot) t.1, inl (ap (λ (g : Fault). g.rec) t.1))
-of_code order file k e slot r f (inr t) = elim t.2.1 [
-  | inl b ↦ (ap (λ (g : Fault). g.slot) b.1, inl (ap (λ (g : Fault). g.rec) b.1))
-  | inr u ↦ (
-    ap (λ (g : Fault). g.slot) u.2,
-    inr (subst IsOfUnread (sym u.2)
-        (unread_between u.1 (unread_reason order _ u.1 u.3.stops))),
-  )
-]
+    (f : Fault) → CodeFault order file k e slot r f → HasSlotAlone f slot
+of_code order file k e slot r f (inl t) = alone f k slot t.0 t.1
+of_code order file k e slot r f (inr (code, whole, (linked, inl b))) = alone f k slot b.0 b.1
+of_code order file k e slot r f (inr (code, whole, (linked, inr u))) = (
+  rw u.2 refl,
+  inr (rw u.2 (unread_between u.1 (unread_reason order _ u.1 u.3.stops))),
+)
 
 -- the faults of records that are looked at once they were read
 of_private : (segs : List Segment) (s : Segment) (rec : ℕ) (r : Record) (why : Reason)
@@ -244,21 +197,31 @@ module _ (law : OneStop) (host : List ℕ) (libs : List (List ℕ)) (f : Fault)
 
   -- of a slot that is not empty
   own_slot : (slot : ℕ) → slot < SLOTS → 1 < turn first.step
-      → (HasRole (order_of host) host slot role.Empty → ⊥) → f.slot ≡ Some slot
-      → (f.rec ≡ None) ⊎ IsOfUnread f → IsNamed host libs f
-  own_slot slot inside lt has at none =
-      of_slot host libs f slot at none (entry_at (order_of host) host slot).name (inl (has, refl))
-      (named_by_entry host libs (host_fine lt) f slot at inside (none_read f none) has)
+      → (HasRole (order_of host) host slot role.Empty → ⊥) → HasSlotAlone f slot
+      → IsNamed host libs f
+  own_slot slot inside lt has at =
+      of_slot host libs f slot at (entry_at (order_of host) host slot).name (inl (has, refl))
+      (named_by_entry host libs (host_fine lt) f slot at.0 inside (none_read f at.1) has)
 
   -- of a record of a segment
   own_record : (s : Segment) → IsSegment (order_of host) host libs s → (rec : ℕ) (r : Record)
-      → slice_get s.records rec ≡ Some r → 5 < turn first.step → f.file ≡ s.file
-      → f.slot ≡ Some s.slot → f.rec ≡ Some rec → is_unread f.reason ≡ false
-      → IsNamed host libs f
-  own_record s is rec r e lt file at u read =
-      of_record host libs f s.slot rec at u read r.name (s, is, (file, at, r, e, refl))
-      (named_by_record host libs (host_fine (omega (arith, lt))) f s.slot at is.0
-      (libraries_fine (omega (arith, lt))) (sources_fine lt) s is.1 rec (one_read f rec u read) r e)
+      → slice_get s.records rec ≡ Some r → 5 < turn first.step → (i : Option ℕ)
+      (why : Reason)
+      → f ≡ record {
+        reason = why;
+        file = s.file;
+        slot = Some s.slot;
+        rec = Some rec;
+        reference = i;
+      } → is_unread why ≡ false → IsNamed host libs f
+  own_record s there rec r e lt i why is read =
+      let at : f.slot ≡ Some s.slot = rw is refl in
+      let u : f.rec ≡ Some rec = rw is refl in
+      let known : is_unread f.reason ≡ false = rw is read in
+      of_record host libs f s.slot rec at u known r.name (s, there, (rw is refl, at, r, e, refl))
+      (named_by_record host libs (host_fine (omega (arith, lt))) f s.slot at there.0
+      (libraries_fine (omega (arith, lt))) (sources_fine lt) s there.1 rec
+      (one_read f rec u known) r e)
 
   -- the segment of the record that requests a name
   giver : (k : ℕ) (g : UnitReference) → IsRequested (order_of host) host libs k g
@@ -276,45 +239,32 @@ module _ (law : OneStop) (host : List ℕ) (libs : List (List ℕ)) (f : Fault)
         | inl h ↦
             let o = own_at order host libs s (by.0, h) in
             let at = own_in_slot order host libs o.0 s o.2 in
-            subst (λ (i : ℕ). (i < SLOTS) × (segment_at order host libs i ≡ Some s))
-            (sym at) (o.1, rw o.2 refl)
+            rw at (o.1, rw o.2 refl)
         | inr u ↦
             let v = of_take k (added_segments order host libs) u.0 s u.2 in
             let at = (empty_slot order host u.0 s.slot
             (in_empty order host libs u.0 s v.1)).1 in
             (omega (arith, at), found_added order host libs u.0 s v.1)
-      ] in (
-        s,
-        there,
-        by.1.0.2,
-        by.1.0.3,
-        asks.2,
-        subst (λ (q : Segment). slice_get q.records g.at.rec ≡ Some asks.2) same asks.3,
-        asks.5,
-      )
+      ] in (s, there, by.1.0.2, by.1.0.3, asks.2, rw same at asks.3, asks.5)
 
   -- of a record that requests a name
   of_giver : (k : ℕ) (g : UnitReference) → IsRequested (order_of host) host libs k g
       → 5 < turn first.step → (why : Reason) → is_unread why ≡ false
       → f ≡ in_record g.at.segment.file g.at.segment.slot g.at.rec why → IsNamed host libs f
-  of_giver k g t lt why read is =
-      let by = giver k g t in
-      own_record by.0 by.1 g.at.rec by.4 by.5 lt (ap (λ (h : Fault). h.file) is ∙ by.2)
-      (ap (λ (h : Fault). h.slot) is ∙ ap (λ (i : ℕ). Some i) by.3)
-      (ap (λ (h : Fault). h.rec) is) (ap (λ (h : Fault). is_unread h.reason) is ∙ read)
+  of_giver k g t lt why read is = let by = giver k g t in let file = by.2 in let slot = by.3 in
+      own_record by.0 by.1 g.at.rec by.4 by.5 lt None why (cc) read
 
   -- of the unit that takes an empty slot
   in_round : (k : ℕ) (g : UnitReference) → IsRequested (order_of host) host libs k g
       → (slot : ℕ) → slice_get (empty_slots (order_of host) host) k ≡ Some slot
-      → 5 < turn first.step → f.slot ≡ Some slot → (f.rec ≡ None) ⊎ IsOfUnread f
-      → IsNamed host libs f
-  in_round k g t slot left lt at none =
+      → 5 < turn first.step → HasSlotAlone f slot → IsNamed host libs f
+  in_round k g t slot left lt at =
       let order : Order = order_of host in
       let low = empty_slot order host k slot left in
       let high = low.1 in
-      of_slot host libs f slot at none g.name (inr (k, g, t, left, refl))
-      (named_by_request host libs (host_fine (omega (arith, lt))) f slot at (omega (arith, high))
-      (libraries_fine (omega (arith, lt))) (none_read f none) (empty_is _ low.2) g
+      of_slot host libs f slot at g.name (inr (k, g, t, left, refl))
+      (named_by_request host libs (host_fine (omega (arith, lt))) f slot at.0 (omega (arith, high))
+      (libraries_fine (omega (arith, lt))) (none_read f at.1) (empty_is _ low.2) g
       (requested_at order host libs k g t (sources_fine lt) slot left))
 
   -- the host's own segment
@@ -337,8 +287,7 @@ module _ (law : OneStop) (host : List ℕ) (libs : List (List ℕ)) (f : Fault)
       of_host s known h = elim known.requested [
         | inl own ↦ (
           (some_pair_parts 0 s.file s.slot s.index
-              (subst (λ (r : Role). source_of (order_of host) host libs s.slot r
-              ≡ Some (s.file, s.index)) (host_role s.role h) own.source)).0,
+              (rw (host_role s.role h) at own.source)).0,
           own.role ∙ ap Ok (host_role s.role h),
         )
         | inr t ↦ absurd (let e = sym (ap is_host t.2.role) ∙ h in cc)
@@ -352,81 +301,56 @@ module _ (law : OneStop) (host : List ℕ) (libs : List (List ℕ)) (f : Fault)
       → source_of (order_of host) host libs slot r ≡ Some at
       → HasRole (order_of host) host slot role.Empty → ⊥
   has_source slot r has at source empty =
-      let none : None ≡ Some at = subst (λ (q : Role). source_of (order_of host) host libs slot q
-      ≡ Some at) (two_roles _ r role.Empty has empty) source in cc
+      let none = rw (two_roles _ r role.Empty has empty) at source in cc
+
+  of_code_at : (slot : ℕ) (r : Role) (at : ℕ × ℕ)
+      → CodeFault (order_of host) (file_at host libs at.0) at.0
+      (entry_at (order_of host) (file_at host libs at.0) at.1) slot r f → HasSlotAlone f slot
+  of_code_at slot r at = of_code (order_of host) (file_at host libs at.0) at.0
+      (entry_at (order_of host) (file_at host libs at.0) at.1) slot r f
 
   by_step : (step : Step) → first.step ≡ step → StandsIn step (order_of host) host libs f
       → IsNamed host libs f
   by_step OfHost e t = of_file host libs f 0 t.0 t.1
-  by_step OfSlots e t =
-      let lt = ap turn e in
-      own_slot t.0 t.1 (omega (arith, lt)) (filled (order_of host) host t.0 t.2.0 t.2.2)
-      (ap (λ (h : Fault). h.slot) t.2.1) (inl (ap (λ (h : Fault). h.rec) t.2.1))
+  by_step OfSlots e t = own_slot t.0 t.1 (rw e (omega arith))
+      (filled (order_of host) host t.0 t.2.0 t.2.2) (alone f 0 t.0 _ t.2.1)
   by_step OfNoHost e t = of_file host libs f 0 reason.NoHost t.0
   by_step OfLibraries e t = of_file host libs f (library_file t.0) t.3.0 t.3.1
-  by_step OfSources e t =
-      let lt = ap turn e in
-      elim t.2.2 [
-        | inl (wanted, inl m) ↦ own_slot t.0 t.1 (omega (arith, lt))
-            (wants t.0 t.2.0 t.2.1 wanted) (ap (λ (h : Fault). h.slot) m.0)
-            (inl (ap (λ (h : Fault). h.rec) m.0))
-        | inl (wanted, inr u) ↦
-            let name = (entry_at (order_of host) host t.0).name in
-            let at = of_entries (order_of host) name libs t.0 f u in
-            own_slot t.0 t.1 (omega (arith, lt)) (wants t.0 t.2.0 t.2.1 wanted) at.0 (inl at.1)
-        | inr c ↦
-            let at = of_code (order_of host) (file_at host libs c.0.0) c.0.0
-            (entry_at (order_of host) (file_at host libs c.0.0) c.0.1) t.0 t.2.0 f c.2 in
-            own_slot t.0 t.1 (omega (arith, lt)) (has_source t.0 t.2.0 t.2.1 c.0 c.1) at.0 at.1
-      ]
-  by_step (OfAdded k) e t =
-      let lt = ap turn e in
-      elim t.2 [
-        | inl m ↦ of_giver k t.0 t.1 (omega (arith, lt)) reason.MissingUnit refl m.0
-        | inr (inl n) ↦ of_giver k t.0 t.1 (omega (arith, lt)) reason.NoSlot refl n.0
-        | inr (inr (slot, left, inl u)) ↦
-            let at = of_entries (order_of host) t.0.name libs slot f u in
-            in_round k t.0 t.1 slot left (omega (arith, lt)) at.0 (inl at.1)
-        | inr (inr (slot, left, inr c)) ↦
-            let at = of_code (order_of host) (file_at host libs c.0.0) c.0.0
-            (entry_at (order_of host) (file_at host libs c.0.0) c.0.1) slot role.Wanted f c.2 in
-            in_round k t.0 t.1 slot left (omega (arith, lt)) at.0 at.1
-      ]
+  by_step OfSources e (slot, inside, (r, has, inl (wanted, inl m))) =
+      own_slot slot inside (rw e (omega arith)) (wants slot r has wanted) (alone f 0 slot _ m.0)
+  by_step OfSources e (slot, inside, (r, has, inl (wanted, inr u))) =
+      own_slot slot inside (rw e (omega arith)) (wants slot r has wanted)
+      (of_entries (order_of host) _ libs slot f u)
+  by_step OfSources e (slot, inside, (r, has, inr c)) =
+      own_slot slot inside (rw e (omega arith)) (has_source slot r has c.0 c.1)
+      (of_code_at slot r c.0 c.2)
+  by_step (OfAdded k) e (g, t, inl m) =
+      of_giver k g t (rw e (omega arith)) reason.MissingUnit refl m.0
+  by_step (OfAdded k) e (g, t, inr (inl n)) =
+      of_giver k g t (rw e (omega arith)) reason.NoSlot refl n.0
+  by_step (OfAdded k) e (g, t, inr (inr (slot, left, inl u))) =
+      in_round k g t slot left (rw e (omega arith))
+      (of_entries (order_of host) g.name libs slot f u)
+  by_step (OfAdded k) e (g, t, inr (inr (slot, left, inr c))) =
+      in_round k g t slot left (rw e (omega arith))
+      (of_code_at slot role.Wanted c.0 c.2)
   by_step OfDefinitions e t =
-      let lt = ap turn e in
-      let of = host_segment (omega (arith, lt)) t.0 t.1 in
-      own_record t.0 of.0 t.2.0 t.2.1 t.2.2 (omega (arith, lt))
-      (ap (λ (h : Fault). h.file) t.2.3.0 ∙ of.1) (ap (λ (h : Fault). h.slot) t.2.3.0)
-      (ap (λ (h : Fault). h.rec) t.2.3.0) (ap (λ (h : Fault). is_unread h.reason) t.2.3.0)
+      let of = host_segment (rw e (omega arith)) t.0 t.1 in
+      own_record t.0 of.0 t.2.0 t.2.1 t.2.2 (rw e (omega arith)) None _ (rw of.1 at t.2.3.0) refl
   by_step OfPrivates e t =
-      let lt = ap turn e in
-      let is = t.2.3.1 in
-      let segs = segments (order_of host) host libs in
-      own_record t.0 t.1 t.2.0 t.2.1 t.2.2 (omega (arith, lt))
-      (ap (λ (h : Fault). h.file) is) (ap (λ (h : Fault). h.slot) is)
-      (ap (λ (h : Fault). h.rec) is)
-      (ap (λ (h : Fault). is_unread h.reason) is
-      ∙ of_private segs t.0 t.2.0 t.2.1 t.2.3.0 t.2.3.2)
+      own_record t.0 t.1 t.2.0 t.2.1 t.2.2 (rw e (omega arith)) None t.2.3.0 t.2.3.1
+      (of_private (segments (order_of host) host libs) t.0 t.2.0 t.2.1 t.2.3.0 t.2.3.2)
   by_step OfDataSize e t =
-      let lt = ap turn e in
-      let of = host_segment (omega (arith, lt)) t.0 t.1 in
-      own_slot t.0.slot of.0.0 (omega (arith, lt))
+      let of = host_segment (rw e (omega arith)) t.0 t.1 in
+      own_slot t.0.slot of.0.0 (rw e (omega arith))
       (λ u. let two = two_roles _ role.Host role.Empty of.2 u in cc)
-      (ap (λ (h : Fault). h.slot) t.2.2.0) (inl (ap (λ (h : Fault). h.rec) t.2.2.0))
-  by_step OfReferences e t =
-      let lt = ap turn e in
-      let segs = segments (order_of host) host libs in
-      elim t.2.3 [
-        | inl u ↦ own_record t.0 t.1 t.2.0 t.2.1 t.2.2 (omega (arith, lt))
-            (ap (λ (h : Fault). h.file) u.1) (ap (λ (h : Fault). h.slot) u.1)
-            (ap (λ (h : Fault). h.rec) u.1)
-            (ap (λ (h : Fault). is_unread h.reason) u.1
-            ∙ of_name segs t.2.1.name t.2.1.body u.0 u.2)
-        | inr (i, x, there, u) ↦ own_record t.0 t.1 t.2.0 t.2.1 t.2.2 (omega (arith, lt))
-            (ap (λ (h : Fault). h.file) u.1) (ap (λ (h : Fault). h.slot) u.1)
-            (ap (λ (h : Fault). h.rec) u.1) (ap (λ (h : Fault). is_unread h.reason) u.1
-            ∙ of_reference (order_of host) segs t.0 t.2.0 t.2.1 i x u.0 u.2)
-      ]
+      (alone f 0 t.0.slot _ t.2.2.0)
+  by_step OfReferences e (s, there, (rec, r, at, inl u)) =
+      own_record s there rec r at (rw e (omega arith)) None u.0 u.1
+      (of_name (segments (order_of host) host libs) r.name r.body u.0 u.2)
+  by_step OfReferences e (s, there, (rec, r, at, inr (i, x, ref, u))) =
+      own_record s there rec r at (rw e (omega arith)) (Some i) u.0 u.1
+      (of_reference (order_of host) (segments (order_of host) host libs) s rec r i x u.0 u.2)
 
   pub about : IsNamed host libs f
   about = by_step first.step refl first.stands.stands

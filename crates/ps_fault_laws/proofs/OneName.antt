@@ -1,18 +1,10 @@
 -- What a fault is about has one name at most, and it has one where the fault has a slot.
-use Rattle.std.proofs.Common.{◌≡◌, ◌∙◌, ◌≤◌, ◌↔◌, ℕ, Bool, true, false, List, Option, Some, None, arith, ap, inl, inr, is_some, refl, subst, sym, leb-true, le-leb}
-use Rattle.std.specs.List.{slice_get}
+use Rattle.ps_laws.proofs.Vocabulary.{◌≡◌, ◌∙◌, ◌≤◌, ◌↔◌, ℕ, Bool, true, false, List, Option, Some, None, arith, ap, inl, inr, is_some, refl, sym, leb-true, le-leb, slice_get, Fault, Order, order_of, HasRole}
 use Rattle.ps_words.specs.FaultPlaces.{has_slot, is_unread}
 use Rattle.ps_words.specs.FaultText.{number_of}
-use Rattle.ps_words.specs.declared.fault.Fault.{Fault}
-use Rattle.ps_words.specs.declared.order.Order.{Order}
 use Rattle.ps_codefile.specs.declared.entry.Role.TheVariants as role
-use Rattle.ps_linkinfo.specs.declared.record.LinkRecord.{LinkRecord as Record}
-use Rattle.ps_reading.specs.Added.{empty_slots, segment_at}
-use Rattle.ps_reading.specs.Sources.{Segment, order_of}
-use Rattle.ps_reading.specs.Standing.Slots.{HasRole}
-use Rattle.ps_reading.specs.declared.reading.added.UnitReference.{UnitReference}
-use Rattle.ps_resolve.specs.Standing.Rounds.{IsRequested}
-use Rattle.ps_laws.proofs.Items.{not_apart}
+use Rattle.ps_reading.specs.Added.{empty_slots}
+use Rattle.ps_lists.proofs.Items.{not_apart}
 use Rattle.ps_laws.proofs.RequestedUnits.{empty_ascend, empty_slot}
 use Rattle.ps_fault_laws.specs.About.{HasRecord, HasSlotAlone, IsAbout, IsNameInRecord, IsNameOfSlot}
 use Rattle.ps_fault_laws.proofs.EachFault.{empty_is, not_unread, unread_between}
@@ -36,20 +28,20 @@ module _ (order : Order) (host : List ℕ) (libs : List (List ℕ)) where
   one_of_slot slot x y (inr a) (inl b) = absurd (b.0 (is_empty_slot a.0 slot a.3))
   one_of_slot slot x y (inr a) (inr b) =
       let k = same_place a.0 b.0 slot a.3 b.3 in
-      let asked = subst (λ (i : ℕ). IsRequested order host libs i a.1) k a.2 in
+      let asked = rw k at a.2 in
       let same : a.1 ≡ b.1 = (let u = asked.1 in let v = b.2.1 in cc) in
-      sym a.4 ∙ ap (λ (g : UnitReference). g.name) same ∙ b.4
+      sym a.4 ∙ rw same b.4
 
   one_in_record : (f : Fault) (rec : ℕ) (x y : List ℕ)
       → IsNameInRecord order host libs f rec x → IsNameInRecord order host libs f rec y
       → x ≡ y
   one_in_record f rec x y a b =
       let slot : a.0.slot ≡ b.0.slot = (let u = a.2.1 in let v = b.2.1 in cc) in
-      let there = subst (λ (i : ℕ). segment_at order host libs i ≡ Some a.0) slot a.1.1 in
+      let there = rw slot at a.1.1 in
       let same : a.0 ≡ b.0 = (let v = b.1.1 in cc) in
-      let read = subst (λ (s : Segment). slice_get s.records rec ≡ Some a.2.2) same a.2.3 in
+      let read = rw same at a.2.3 in
       let record_same : a.2.2 ≡ b.2.2 = (let v = b.2.3 in cc) in
-      sym a.2.4 ∙ ap (λ (r : Record). r.name) record_same ∙ b.2.4
+      sym a.2.4 ∙ rw record_same b.2.4
 
 -- a fault is reported without a slot, with a record that was read, or with neither
 data Reported (f : Fault) : Type 0 where
@@ -76,13 +68,11 @@ one host libs f name other a b = go (reported f)
     go (record_of rec h s) =
         let x = a.in_record rec h in
         let y = b.in_record rec h in
-        x.2 ∙ ap (λ (n : List ℕ). Some n)
-        (one_in_record (order_of host) host libs f rec x.0 y.0 x.1 y.1) ∙ sym y.2
+        x.2 ∙ rw (one_in_record (order_of host) host libs f rec x.0 y.0 x.1 y.1) (sym y.2)
     go (slot_of slot h) =
         let x = a.in_slot slot h in
         let y = b.in_slot slot h in
-        x.2 ∙ ap (λ (n : List ℕ). Some n)
-        (one_of_slot (order_of host) host libs slot x.0 y.0 x.1 y.1) ∙ sym y.2
+        x.2 ∙ rw (one_of_slot (order_of host) host libs slot x.0 y.0 x.1 y.1) (sym y.2)
 
 -- there is a name just where the fault has a slot
 named : (host : List ℕ) (libs : List (List ℕ)) (f : Fault) (name : Option (List ℕ))

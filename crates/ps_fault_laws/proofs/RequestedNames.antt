@@ -1,25 +1,16 @@
 -- The unit that is requested for an empty slot, where the sources of the host's own slots have no
 -- fault: the k-th name that is looked up takes the k-th empty slot.
-use Rattle.std.proofs.Common.{◌≡◌, ◌∙◌, ◌<◌, ◌≤◌, ◌+◌, ◌==◌, ◌∷◌, ◌++◌, [], ℕ, zero, suc, Bool, List, Some, None, arith, ap, sym, take, drop, filter}
+use Rattle.ps_laws.proofs.Vocabulary.{◌≡◌, ◌∙◌, ◌<◌, ◌≤◌, ◌+◌, ◌==◌, ◌∷◌, ◌++◌, [], ℕ, zero, suc, Bool, List, Some, None, arith, ap, refl, sym, take, filter, enumerate_from, find, range_with_len, slice_get, Order, FIRST_ADDED, is_empty, added_segments, all_unit_references, request_of, is_role, sources_fault, MAX_ADDED, UnitReference, IsRequested, own_units}
+use Rattle.std.proofs.Common.{drop}
 use Rattle.std.proofs.lemmas.List.{take-append-drop}
-use Rattle.std.specs.Option.{option_map}
-use Rattle.std.specs.Prelude.{option_and_then}
-use Rattle.std.specs.List.{enumerate_from, find, range_with_len, slice_get}
-use Rattle.ps_words.specs.declared.order.Order.{Order}
-use Rattle.ps_codefile.specs.declared.dictionary_layout.TheConstants.{FIRST_ADDED}
-use Rattle.ps_codefile.specs.Roles.{is_empty}
-use Rattle.ps_reading.specs.Added.{RoundsOutcome, added_segments, all_unit_references, empty_slots, request_of, requested_from, requested_units}
-use Rattle.ps_reading.specs.Faults.{is_role, sources_fault}
-use Rattle.ps_reading.specs.Readings.{queued_request, read_requests, read_rounds, slot_request}
-use Rattle.ps_reading.specs.Sources.{Segment, own_segments, units_of}
-use Rattle.ps_reading.specs.declared.reading.added.TheConstants.{MAX_ADDED, MAX_REQUESTED}
-use Rattle.ps_reading.specs.declared.reading.added.UnitReference.{UnitReference}
-use Rattle.ps_resolve.specs.Standing.Rounds.{IsRequested}
-use Rattle.ps_reading.proofs.EachRound.{own_units, requested_rest}
+use Rattle.ps_reading.specs.Added.{empty_slots, requested_units}
+use Rattle.ps_reading.specs.Readings.{queued_request, read_requests, slot_request}
+use Rattle.ps_reading.specs.declared.reading.added.TheConstants.{MAX_REQUESTED}
+use Rattle.ps_reading.proofs.EachRound.{requested_rest}
 use Rattle.ps_reading.proofs.KnownNames.{grown}
 use Rattle.ps_reading.proofs.ReadingSlots.{read_are, rounds_are}
 use Rattle.ps_reading.proofs.Requested.{of_empty}
-use Rattle.ps_laws.proofs.Items.{at_left, in_front}
+use Rattle.ps_lists.proofs.Items.{at_left, in_front}
 use Rattle.ps_laws.proofs.RequestedUnits.{empty_ascend, empty_slot}
 
 -- the j-th number of a range from a on that passes a test is at least a + j
@@ -68,21 +59,14 @@ module _ (order : Order) (host : List ℕ) (libs : List (List ℕ)) where
         let all : requested_units order host libs added ≡ before ++ more.0 =
         ap (requested_units order host libs) (sym (take-append-drop k added))
         ∙ requested_rest order host libs (take k added) (drop k added) ∙ more.1 in
-        ap (λ (gs : List UnitReference). slice_get gs k) all
-        ∙ at_left before more.0 k g requested.1
+        rw all (at_left before more.0 k g requested.1)
 
     module _ (sound : sources_fault order host libs ≡ None) where
       read_requests_are : read_requests order host libs
           ≡ take MAX_REQUESTED (requested_units order host libs (added_segments order host libs))
       unfolding read_requests requested_units
-      read_requests_are = ap (λ (own : List Segment). take MAX_REQUESTED
-          (requested_from (units_of own) []
-          (all_unit_references (own ++ (read_rounds order host libs).added))))
-          (read_are order host libs sound)
-          ∙ ap (λ (r : RoundsOutcome). take MAX_REQUESTED
-          (requested_from (own_units order host libs) []
-          (all_unit_references (own_segments order host libs ++ r.added))))
-          (rounds_are order host libs sound)
+      read_requests_are =
+          rw (read_are order host libs sound, rounds_are order host libs sound) refl
 
       -- the slot at k is requested for the k-th name
       pub requested_at : (slot : ℕ) → slice_get (empty_slots order host) k ≡ Some slot
@@ -96,12 +80,8 @@ module _ (order : Order) (host : List ℕ) (libs : List (List ℕ)) where
               (first_place k slot e)
 
           name : slice_get (read_requests order host libs) k ≡ Some g
-          name = ap (λ (gs : List UnitReference). slice_get gs k) read_requests_are
-              ∙ in_front MAX_REQUESTED _ k g (few k slot e) in_queue
+          name = rw read_requests_are (in_front MAX_REQUESTED _ k g (few k slot e) in_queue)
 
           queued : queued_request (read_requests order host libs) (empty_slots order host) slot
               ≡ Some (request_of g slot)
-          queued = ap (option_and_then (λ (p : ℕ × ℕ). option_map
-              (λ (h : UnitReference). request_of h slot)
-              (slice_get (read_requests order host libs) p.0))) place
-              ∙ ap (option_map (λ (h : UnitReference). request_of h slot)) name
+          queued = rw (place, name) refl

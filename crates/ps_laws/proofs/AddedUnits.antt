@@ -4,7 +4,7 @@ use Rattle.ps_resolve.specs.Added.{is_already_known, requested_units}
 use Rattle.ps_codefile.specs.declared.entry.Role.TheVariants as role
 use Rattle.ps_laws.proofs.Least.{not_both}
 use Rattle.ps_laws.proofs.Looking.{any_of_items, is_there}
-use Rattle.ps_laws.proofs.Items.{not_apart, at_left, first_right, right_at, of_filter_map, of_numbered, in_front}
+use Rattle.ps_lists.proofs.Items.{not_apart, at_left, first_right, right_at, of_filter_map, of_numbered, in_front}
 pub use Rattle.ps_resolve.proofs.FirstSlots.{or_none as both_none, some_mapped}
 use Rattle.ps_laws.proofs.Sources.{ok_is}
 use Rattle.ps_laws.proofs.UnitPlaces.{unit_place}

@@ -5,7 +5,7 @@ use Rattle.ps_resolve.specs.Symbols.{def_in, definition_in, definitions, definit
 use Rattle.ps_resolve.specs.declared.definitions.Def.{Def}
 use Rattle.ps_resolve.specs.declared.definitions.DefKind.TheVariants.{Public}
 use Rattle.ps_resolve.specs.declared.references.Target.TheVariants.{Slot, Base}
-use Rattle.ps_laws.proofs.Items.{In, find_in, find_passes, of_filter_map}
+use Rattle.ps_lists.proofs.Items.{In, find_in, find_passes, of_filter_map}
 use Rattle.ps_laws.proofs.References.{named_some}
 use Rattle.ps_laws.proofs.Looking.{of_test, find_none}
 use Rattle.ps_laws.proofs.PrivateOffsets.{all_are}

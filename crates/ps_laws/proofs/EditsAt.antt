@@ -1,7 +1,7 @@
 -- The edits of a segment of a link: what each is, and which of them covers a place.
 use Rattle.ps_laws.proofs.Vocabulary.{same_Some, ◌⊎◌, if◌then◌else◌, ◌&&◌, nat_le, nat_lt, enumerate_from, slice_get, flat_map, table_of, total_words, private_offset, Reaches, IsSizePlace, summed_edits, refs_of, Body, Record, needs_linking, is_host, Segment, target_in, target_of, known_of, grown_data_size, Target, Order, Edit, Byte, Reason, rules, ◌≡◌, ℕ, zero, suc, ◌+◌, ◌-◌, ◌<◌, ◌≤◌, List, [], ◌∷◌, ◌++◌, length, map, Some, Result, Ok, Err, Bool, true, refl, sym, ap, subst, ◌∙◌, inl, inr, arith, nat_tests, IsNumberPlace, edit_of, record_edits, data_edits, Word}
 use Rattle.ps_linkinfo.specs.Operands.{operand_width}
-use Rattle.ps_laws.proofs.Items.{In, in_left, in_right, in_flat, of_numbered, in_numbered}
+use Rattle.ps_lists.proofs.Items.{In, in_left, in_right, in_flat, of_numbered, in_numbered}
 use Rattle.ps_laws.proofs.AddedUnits.{split_at, mapped, map_at}
 use Rattle.ps_laws.proofs.SoundCodes.{HasOuter}
 use Rattle.ps_words.specs.Edits.{place_of, width, covers}

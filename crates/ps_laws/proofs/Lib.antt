@@ -1,7 +1,6 @@
 pub mod Vocabulary
 pub mod Least
 pub mod Looking
-pub mod Items
 pub mod FaultParts
 pub mod Steps
 pub mod Segments

@@ -5,7 +5,7 @@ use Rattle.ps_laws.proofs.Least.{Least, this}
 use Rattle.ps_laws.proofs.Steps.{Ranked}
 use Rattle.ps_laws.proofs.Sources.{OneStop}
 use Rattle.ps_laws.proofs.RequestedUnits.{requested_is_there}
-use Rattle.ps_laws.proofs.Items.{all_items}
+use Rattle.ps_lists.proofs.Items.{all_items}
 use Rattle.ps_laws.proofs.OfLink.{of_link}
 use Rattle.ps_laws.proofs.References.{record_rows}
 use Rattle.ps_laws.proofs.Whole.{unread}

@@ -2,7 +2,7 @@
 use Rattle.ps_codefile.specs.declared.entry.Role.TheVariants as role
 use Rattle.ps_laws.proofs.Vocabulary.{Segment, unit_source, own_segment, IsGiver, HasRole, UnitReference, Order, slice_get, false≢true, none-some, is_empty, added_segments, is_role, ◌≡◌, List, ◌++◌, Option, ◌∙◌, is_none, ℕ, take, Some, None, true, refl, subst, inl, inr, arith, own_segments, IsRequested, NoneHas, own_made, in_empty}
 use Rattle.ps_resolve.specs.FaultParts.{WantsMissing}
-use Rattle.ps_laws.proofs.Items.{of_take}
+use Rattle.ps_lists.proofs.Items.{of_take}
 use Rattle.ps_laws.proofs.Segments.{own_in_slot}
 use Rattle.ps_laws.proofs.Sources.{none_has, ok_is}
 use Rattle.ps_laws.proofs.RequestedUnits.{empty_slot, own_at}

@@ -1,7 +1,7 @@
 -- What is known of a segment of a link, by its slot.
 use Rattle.ps_laws.proofs.Vocabulary.{◌≡◌, ℕ, List, None, reading_fault, segments, IsOfLink, Segment, order_of, IsSegment, all_of_link}
 use Rattle.ps_laws.proofs.RequestedUnits.{in_segments}
-use Rattle.ps_laws.proofs.Items.{of_all}
+use Rattle.ps_lists.proofs.Items.{of_all}
 
 pub of_link : (host : List ℕ) (libs : List (List ℕ)) → reading_fault host libs ≡ None
     → (s : Segment) → IsSegment (order_of host) host libs s

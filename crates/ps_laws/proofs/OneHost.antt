@@ -3,7 +3,7 @@
 use Rattle.ps_resolve.specs.Standing.Definitions.{HasEarlierNamesake}
 use Rattle.ps_laws.proofs.Looking.{is_there}
 use Rattle.ps_laws.proofs.Vocabulary.{same_Some, cons_option, option_map_or, false≢true, next_of, Body, Record, segments_of, is_host, Segment, order_of, host_of, host_records, NoneStands, OfDefinitions, in_record, ◌≡◌, ℕ, zero, suc, ◌+◌, ◌<◌, List, [], ◌∷◌, length, Some, None, Bool, true, false, refl, sym, ap, ◌∙◌, is_some, arith, filter_map, slice_get, unwrap_or, is_definition, next_in, EndsOnce, is_end, is_eof, PublDef, Eof, reading_fault, IsHostRecord, IsPublic, IsBase, has_host}
-use Rattle.ps_laws.proofs.Items.{find_in, find_passes, not_apart}
+use Rattle.ps_lists.proofs.Items.{find_in, find_passes, not_apart}
 use Rattle.ps_laws.proofs.OfLink.{of_link}
 use Rattle.ps_laws.proofs.OneName.{of_segments}
 use Rattle.ps_laws.proofs.OnePlace.{host_linked}

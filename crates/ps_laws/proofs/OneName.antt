@@ -1,7 +1,7 @@
 -- Where no fault applies, no two units of a link have a name in common.
 use Rattle.ps_laws.proofs.Vocabulary.{◌⊎◌, slice_get, same_Some, entry_at, is_unit, added_segments, segments_of, IsOfRound, AddedUnits, Segment, order_of, NoneStands, OfSlots, IsSegment, IsUnitSlot, UnitReference, Order, rules, ◌≡◌, ℕ, ◌<◌, List, Some, None, true, refl, sym, ap, ◌∙◌, inl, inr, SlotHas, segments, reading_fault, IsSlotOf, queue_of, rounds_fine, sources_fine, all_at, SLOTS}
 use Rattle.ps_laws.proofs.AddedUnits.{unit_slot, units_are}
-use Rattle.ps_laws.proofs.Items.{not_apart, of_all}
+use Rattle.ps_lists.proofs.Items.{not_apart, of_all}
 use Rattle.ps_laws.proofs.OfLink.{of_link}
 use Rattle.ps_words.specs.declared.fault.Reason.TheVariants as reason
 

@@ -1,6 +1,6 @@
 -- Where no fault applies, no place of a segment is covered twice.
 use Rattle.ps_laws.proofs.Vocabulary.{is_reserved, OfReferences, IsSegment, IsOfFile, IsReference, Reaches, IsSizePlace, IsOnePlace, segments_of, NoneStands, Role, Record, Before, needs_linking, is_host, Segment, order_of, Reason, arith, ◌≡◌, ℕ, List, [], ◌∷◌, true, refl, sym, inl, inr, ReferenceHas, in_reference}
-use Rattle.ps_laws.proofs.Items.{not_apart}
+use Rattle.ps_lists.proofs.Items.{not_apart}
 use Rattle.ps_laws.proofs.SoundCodes.{HasOuter, outer, number_reserved, size_reserved, own_apart}
 use Rattle.ps_words.specs.declared.fault.Reason.TheVariants as reason
 

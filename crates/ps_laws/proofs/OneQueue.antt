@@ -1,6 +1,6 @@
 -- Just one queue of names and one list of segments have what is said of the units that are added.
 use Rattle.ps_laws.proofs.Vocabulary.{slice_get, cases_order, same_Some, Role, Record, IsNamed, HasEntry, Before, Segment, RequestsAt, IsGiver, AddedUnits, UnitReference, Order, rules, ◌≡◌, ℕ, zero, suc, ◌+◌, ◌<◌, List, [], ◌∷◌, ◌++◌, length, take, Option, Some, None, Bool, refl, sym, ap, subst, ◌∙◌, inl, inr, arith, ProcedureTables, own_segments, IsOfFirstLibrary, SLOTS}
-use Rattle.ps_laws.proofs.Items.{not_apart, some_before}
+use Rattle.ps_lists.proofs.Items.{not_apart, some_before}
 use Rattle.ps_laws.proofs.Least.{not_both}
 
 -- 1. lists that are the same up to a place

@@ -4,7 +4,7 @@ use Rattle.ps_laws.proofs.Vocabulary.{◌⊎◌, if◌then◌else◌, ◌&&◌, 
 use Rattle.ps_resolve.specs.Added.{is_already_known, empty_slots, requested_units, segment_at, segments}
 use Rattle.ps_resolve.specs.Sources.{own_segments}
 use Rattle.ps_laws.proofs.Looking.{is_there, of_test, any_of_items, find_none}
-use Rattle.ps_laws.proofs.Items.{In, all_in, not_apart, in_left, in_right, in_flat, in_filter_map, in_numbered, of_filter_map, in_range, of_range, of_filter, filter_ascends}
+use Rattle.ps_lists.proofs.Items.{In, all_in, not_apart, in_left, in_right, in_flat, in_filter_map, in_numbered, of_filter_map, in_range, of_range, of_filter, filter_ascends}
 use Rattle.ps_laws.proofs.Segments.{found_in_slot}
 use Rattle.ps_resolve.proofs.KnownNames.{grown, known_last, known_longer}
 

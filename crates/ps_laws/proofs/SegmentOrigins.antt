@@ -3,7 +3,7 @@ use Rattle.ps_laws.proofs.Vocabulary.{◌≢◌, false≢true, request_fault, Un
 use Rattle.ps_resolve.specs.Added.{added_at, segments, empty_slots, requested_units}
 use Rattle.ps_codefile.specs.declared.entry.Role.TheVariants as role
 use Rattle.ps_resolve.specs.Faults.{slot_reason, slots_fault, sources_fault}
-use Rattle.ps_laws.proofs.Items.{In, all_items, in_range, in_filter, of_take, some_before}
+use Rattle.ps_lists.proofs.Items.{In, all_items, in_range, in_filter, of_take, some_before}
 use Rattle.ps_laws.proofs.OfLink.{of_link}
 use Rattle.ps_resolve.proofs.ReadingCodes.{whole_code}
 use Rattle.ps_laws.proofs.Sources.{OneStop}

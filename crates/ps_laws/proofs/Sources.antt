@@ -5,7 +5,7 @@ use Rattle.ps_resolve.proofs.RequestedSegments.{has_name}
 pub use Rattle.ps_resolve.proofs.FirstSlots.{ok_is}
 use Rattle.ps_laws.proofs.Least.{Least, nothing, this, Precedes, least_same, least_or, least_if, least_then, least_below, least_items, least_guard, least_else}
 use Rattle.ps_laws.proofs.Steps.{Ranked, because, any_of_range, any_lesser}
-use Rattle.ps_laws.proofs.Items.{not_apart}
+use Rattle.ps_lists.proofs.Items.{not_apart}
 use Rattle.ps_laws.proofs.Looking.{of_test}
 use Rattle.ps_laws.proofs.FaultParts.{code_reason, record_reason}
 use Rattle.ps_codefile.specs.declared.entry.Role.TheVariants as role

@@ -1,7 +1,7 @@
 -- The place of a unit: the first library that has an entry of its name, and the first such entry.
 use Rattle.ps_laws.proofs.Vocabulary.{slice_get, option_map, slots, EntryFault, ◌≢◌, find, IsFile, Order, Request, in_slot, Fault, is_named, chosen_library, unit_source, request_fault, file_at, IsNamed, HasEntry, entry_at, ◌≡◌, ℕ, zero, suc, ◌+◌, ◌<◌, List, [], Some, sym, ap, subst, arith, unwrap_or, refl, ◌≤◌, None, option_and_then_some, library_file, EntriesHave, some_mapped, IsUnitOf, request_parts, SLOTS}
 use Rattle.ps_laws.proofs.Least.{quiet, Least}
-use Rattle.ps_laws.proofs.Items.{find_in, find_passes, of_range, not_apart}
+use Rattle.ps_lists.proofs.Items.{find_in, find_passes, of_range, not_apart}
 use Rattle.ps_laws.proofs.Sources.{Found, IsChosen, chosen, is_chosen, named, entry_least}
 use Rattle.ps_laws.proofs.OneQueue.{HasOneEntry}
 use Rattle.ps_words.specs.declared.fault.Reason.TheVariants as reason

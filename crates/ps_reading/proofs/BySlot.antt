@@ -6,7 +6,7 @@ use Rattle.ps_reading.specs.Readings.{read_segment, read_segments}
 use Rattle.ps_reading.specs.KnownSegments.{is_in_slot, put_by_slot, segment_in_slot, segments_in_slots}
 use Rattle.ps_reading.proofs.EachSegment.{added_made}
 use Rattle.ps_reading.proofs.InSlots.{InPlace, found_there, same_kept}
-use Rattle.ps_reading.proofs.Items.{find_passes}
+use Rattle.ps_lists.proofs.Items.{find_passes}
 use Rattle.ps_reading.proofs.ReadingKnown.{own_parts}
 use Rattle.ps_reading.proofs.NextItems.{drop_at}
 

@@ -5,7 +5,7 @@ use Rattle.ps_codefile.specs.declared.entry.Role.TheVariants as role
 use Rattle.ps_reading.specs.Added.{unit_references, all_unit_references, requested_from, empty_slots, is_missing, unplaced_fault, placed_fault, as_added, added_segment, request_of, RoundsOutcome, after, rounds_from, requested_units, rounds, added_segments}
 use Rattle.ps_reading.proofs.RequestQueue.{no_name_left, requested-append, round_adds, round_refused}
 use Rattle.ps_reading.proofs.FirstSlots.{any_found, neither_first}
-use Rattle.ps_reading.proofs.Items.{find_passes, first_right}
+use Rattle.ps_lists.proofs.Items.{find_passes, first_right}
 use Rattle.ps_reading.proofs.NextItems.{longer, take_prefix}
 
 -- 1. what is known of a unit's source where there is no fault

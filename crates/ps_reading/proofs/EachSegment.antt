@@ -1,17 +1,7 @@
 -- What a segment of a link is made of, and what holds of each.
 use Rattle.ps_reading.proofs.Vocabulary.{rules, ◌≡◌, ℕ, ◌<◌, List, [], ◌∷◌, Bool, true, false, Option, Some, None, Result, Ok, refl, ◌∙◌, ◌==◌, inl, inr, arith, ◌⊎◌, All, option_and_then, option_map, eqb-true, filter_map, cons_option, find, result_ok, option_and_then_some, All-nil, All-cons, All-tail, All-from_get_or, get_or-range_with_len, Order, Reason, slots, entry_at, role_of, code_of, is_empty, Role, Wanted, added_segment, added_segments, as_added, segment_at, is_role, Segment, file_at, own_segment, segment_from, segment_with, source_of, unit_source, UnitReference, SLOTS}
 use Rattle.ps_reading.proofs.FirstSlots.{some_mapped}
-
--- what is found passes the test, and has what all have
-pub find_has : {X : Type 0} (P : X → Type 0) (test : X → Bool) (xs : List X) (x : X)
-    → find test xs ≡ Some x → All P xs → (test x ≡ true) × P x
-find_has P test [] x h all = cc
-find_has {X} P test (y ∷ ys) x h all =
-    by (λ e. find_has P test ys x e (All-tail P y ys all)) (test y) refl
-  where
-    by : (find test ys ≡ Some x → (test x ≡ true) × P x) → (b : Bool) → test y ≡ b
-        → (test x ≡ true) × P x
-    by rest b e = grind arith
+pub use Rattle.ps_lists.proofs.Items.{find_has}
 
 -- 1. what it is made of
 -- the segment has the code of its entry, and is this one

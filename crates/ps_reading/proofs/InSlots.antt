@@ -3,7 +3,7 @@ use Rattle.ps_reading.proofs.Vocabulary.{◌≡◌, ◌≢◌, ◌∙◌, ℕ, z
 use Rattle.ps_reading.specs.Sources.{Segment, own_segment, own_segments}
 use Rattle.ps_reading.specs.Added.{added_segments, segments, segment_at}
 use Rattle.ps_reading.specs.KnownSegments.{is_in_slot, segment_in_slot, segments_in_slots}
-use Rattle.ps_reading.proofs.Items.{find_passes}
+use Rattle.ps_lists.proofs.Items.{find_passes}
 use Rattle.ps_reading.proofs.ReadingKnown.{own_parts}
 
 -- each number's segment is in its slot

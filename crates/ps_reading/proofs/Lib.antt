@@ -9,7 +9,6 @@ pub mod ReadingCodes
 pub mod ReadingSources
 pub mod ReadingHosts
 pub mod EachSegment
-pub mod Items
 pub mod EachRound
 pub mod OfRounds
 pub mod ReadingKnown

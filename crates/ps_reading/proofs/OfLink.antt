@@ -8,7 +8,7 @@ use Rattle.ps_reading.proofs.EachSegment.{IsMade, added_made, at_slot, own_made}
 use Rattle.ps_reading.proofs.FirstSlots.{none_mapped, ok_is, or_none}
 use Rattle.ps_reading.proofs.ReadingKnown.{all_at, host_there, none_at, one_host}
 use Rattle.ps_reading.proofs.EachRound.{request_parts}
-use Rattle.ps_reading.proofs.Items.{In, all_in}
+use Rattle.ps_lists.proofs.Items.{In, all_in}
 use Rattle.ps_reading.proofs.OfRounds.{segment_named}
 
 module _ (order : Order) (host : List ℕ) (libs : List (List ℕ)) where

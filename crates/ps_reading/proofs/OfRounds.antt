@@ -4,7 +4,7 @@ use Rattle.ps_reading.proofs.Vocabulary.{◌≡◌, ℕ, ◌≤◌, List, ◌∷
 use Rattle.ps_codefile.specs.declared.entry.Role.TheVariants as role
 use Rattle.ps_reading.proofs.EachRound.{IsTurn, all_rounds, own_units, requested_rest, segments_before}
 use Rattle.ps_reading.proofs.EachSegment.{added_made}
-use Rattle.ps_reading.proofs.Items.{at_left, first_right, some_before}
+use Rattle.ps_lists.proofs.Items.{at_left, first_right, some_before}
 use Rattle.ps_reading.proofs.KnownNames.{grown}
 
 module _ (order : Order) (host : List ℕ) (libs : List (List ℕ)) where

@@ -4,7 +4,7 @@ use Rattle.ps_reading.proofs.Vocabulary.{◌≡◌, ℕ, ◌+◌, ◌*◌, ◌<�
 use Rattle.ps_reading.specs.Added.{is_already_known, unit_references, all_unit_references, requested_from, added_segments, requested_units, segment_at, segments, slot_name, slot_names}
 use Rattle.ps_reading.specs.Sources.{Segment, own_segment, own_segments, units_of}
 use Rattle.ps_reading.proofs.EachSegment.{IsMade, added_made, at_slot, each_slot, find_has, own_made}
-use Rattle.ps_reading.proofs.Items.{of_all}
+use Rattle.ps_lists.proofs.Items.{of_all}
 use Rattle.ps_reading.proofs.OfRounds.{each_added, queue_of}
 
 -- the law of link information
