@@ -2,7 +2,7 @@
 -- all segments does not depend on where each of them comes from.
 use Rattle.std.proofs.Math.ListN.{drop}
 use Rattle.ps_laws.proofs.Vocabulary.{Bool, List, None, Option, SLOTS, Segment, Some, [], arith, false, filter_map, find, first_of, host_records, if◌then◌else◌, is_none, list_any, map, nat_lt, nat_tests, option_map, option_map_or, option_or, refl, slice_get, slots, suc, total_words, true, units_of, zero, ℕ, ◌&&◌, ◌+◌, ◌<◌, ◌∷◌, ◌≡◌}
-use Rattle.ps_laws.proofs.Items.{In, of_range}
+use Rattle.ps_lists.proofs.Items.{In, of_range}
 
 -- two options: both are there, and so related, or neither is
 pub data Both {A : Type 0} (R : A → A → Type 0) : Option A → Option A → Type 0 where

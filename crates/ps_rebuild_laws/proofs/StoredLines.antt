@@ -4,10 +4,15 @@ use Rattle.ps_laws.proofs.Looking.{any_of_items, find_none, is_there}
 use Rattle.ps_laws.proofs.OnePlace.{host_linked}
 use Rattle.ps_laws.proofs.References.{wide}
 use Rattle.ps_laws.proofs.SoundCodes.{outer}
-use Rattle.ps_linkfile.specs.declared.cause.Cause.TheVariants.{DataSize, Number}
+use Rattle.ps_linkfile.specs.declared.cause.Cause.TheVariants.{DataSize, Number, Reference}
+use Rattle.ps_linkinfo.specs.Kinds.{kind_of}
 use Rattle.ps_linkinfo.specs.Numbered.{numbered_records}
 use Rattle.ps_linkinfo.specs.Operands.{operand_width}
-use Rattle.std.proofs.lemmas.Option.{slice_get-get_or}
+use Rattle.ps_linkinfo.specs.declared.kind.Kind.{Kind}
+use Rattle.ps_rebuild_laws.specs.StoredLines.{IsRecordOfLine}
+use Rattle.std.proofs.lemmas.Option.{slice_get-get_or, slice_get_within}
+use Rattle.std.proofs.Common.{suc}
+use Rattle.std.specs.Option.{option_or}
 
 -- 1. lists
 -- what some items give, in one step
@@ -78,6 +83,33 @@ module _ (x : ℕ) where
       ≡ (if b then Some DataSize else records_at (numbered_records 0 rs) x)
   cause_is size edits rs b n e = grind (arith, nat_tests)
 
+  -- a reference that is stored there is of a record that refers to the place, by its number
+  of_records : (size : ℕ) (edits : List Edit) (rs : List Record) (kind : Kind) (name : List ℕ)
+      (rec : ℕ) → cause_at size edits rs x ≡ Some (Reference kind name rec)
+      → records_at (numbered_records 0 rs) x ≡ Some (Reference kind name rec)
+  of_records size edits rs kind name rec e = grind arith
+
+  abbrev IsRecordOf : ℕ → List Record → Kind → List ℕ → ℕ → Type 0
+  IsRecordOf n rs kind name rec = (k : ℕ) × (rec ≡ n + k) × ((r : Record)
+      × (slice_get rs k ≡ Some r) × (kind_of r.body ≡ kind) × (r.name ≡ name)
+      × (refers r ≡ true))
+
+  record_of : (n : ℕ) (rs : List Record) (kind : Kind) (name : List ℕ) (rec : ℕ)
+      → records_at (numbered_records n rs) x ≡ Some (Reference kind name rec)
+      → IsRecordOf n rs kind name rec
+  record_of n [] kind name rec e = absurd (cc)
+  record_of n (r ∷ rs) kind name rec e = by (refers r) refl (record_of (n + 1) rs kind name rec) e
+    where
+      by : (b : Bool) → refers r ≡ b
+          → (records_at (numbered_records (n + 1) rs) x ≡ Some (Reference kind name rec)
+          → IsRecordOf (n + 1) rs kind name rec)
+          → option_or (if b then Some (Reference (kind_of r.body) r.name n) else None)
+          (records_at (numbered_records (n + 1) rs) x) ≡ Some (Reference kind name rec)
+          → IsRecordOf n (r ∷ rs) kind name rec
+      by true is later h =
+          (0, (let same : n ≡ rec = (cc) in omega (arith, same)), (r, refl, cc, cc, is))
+      by false is later h = let t = later h in let at = t.1 in (suc t.0, omega (arith, at), t.2)
+
   refers_if : (r : Record) → Decides (refers r) (SomeItem (refs_of r.body) (λ i y. y ≡ x))
   refers_if r = any_of_items (λ y. y == x) (λ y. y ≡ x) (λ y. Decides-eqb y x) (refs_of r.body)
 
@@ -143,6 +175,22 @@ module _ (host : List ℕ) (libs : List (List ℕ)) (file : List ℕ)
         let same_byte = of_all (λ (q : Segment). (p b c : ℕ) → IsLinkedByte order segs q p b
         → IsLinkedByte order segs q p c → b ≡ c) segs one there.0 s there.1 (at + j) _ _
         (is_linked (at + j) t.0) byte in (t.0, same_byte ∙ sym (rw is_now t.1))
+
+    recorded : (at rec : ℕ) (kind : Kind) (name : List ℕ)
+        → IsRecordOfLine (all_stored host libs) s.slot at kind name rec → (r : Record)
+        × (slice_get s.records rec ≡ Some r) × (kind_of r.body ≡ kind) × (r.name ≡ name)
+        × SomeItem (refs_of r.body) (λ i x. x ≡ at)
+    recorded at rec kind name (k, l, get, (slot, cause)) =
+        let f = cause_at (length s.code) (edits s) s.records in
+        let there = rw (listed_is l (k, get) slot) at cause in
+        let inside : at < length s.code = rw length-map-range_with_len at
+        (slice_get_within (map f (range_with_len 0 (length s.code))) at _ there) in
+        let same : f at ≡ Some (Reference kind name rec) =
+        (let made = made_at f (length s.code) at inside in cc) in
+        let r = record_of at 0 s.records kind name rec
+        (of_records at (length s.code) (edits s) s.records kind name rec same) in
+        let k : r.0 ≡ rec = (let e = r.1 in omega (arith, e)) in
+        (r.2.0, rw k at r.2.1, r.2.2, r.2.3, (refers_if at r.2.0).0 r.2.4)
 
     known : IsOfLink order host libs s
     known = of_link host libs read s (of_segments order host libs there.0 s there.1)
@@ -237,6 +285,7 @@ module _ (host : List ℕ) (libs : List (List ℕ)) (file : List ℕ)
       before = λ k l get slot. let same = listed_is l (k, get) slot in
           (ap (λ (x : StoredIn). x.code) same, ap (λ (x : StoredIn). x.block) same);
       named = named;
+      recorded = recorded;
       kept = λ p inside free. (is_linked p inside).kept (number p inside free)
           (size p inside free) (reference p inside free);
     }

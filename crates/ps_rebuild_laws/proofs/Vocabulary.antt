@@ -2,7 +2,7 @@
 pub use Rattle.ps_codefile.specs.Dictionary.{name_at, tail_of}
 pub use Rattle.ps_laws.proofs.AddedUnits.{has_own, map_at}
 pub use Rattle.ps_rebuild_laws.proofs.ChangedLists.{Both, all_mapped, and_left, any_mapped, both, clipped, drop_at, find_mapped, first_mapped, in_slots, known_moved, neither, none_alike, or_moved, same_clipped}
-pub use Rattle.ps_laws.proofs.Items.{In, all_items, at_left, find_in, find_passes, in_filter_map, of_all, of_filter_map}
+pub use Rattle.ps_lists.proofs.Items.{In, all_items, at_left, find_in, find_passes, in_filter_map, of_all, of_filter_map}
 pub use Rattle.ps_laws.proofs.OfLink.{of_link}
 pub use Rattle.ps_laws.proofs.OneName.{of_segments}
 pub use Rattle.ps_laws.proofs.RequestedUnits.{empty_slot, found_added, in_segments}
