@@ -15,21 +15,12 @@ not_empty : (text : List ℕ) (byte : ℕ) → (length (text ++ byte ∷ []) == 
 not_empty [] byte = refl
 not_empty (t ∷ ts) byte = grind (arith, nat_tests)
 
-kept : (b : ℕ) (blank empty : Bool) (left : List ℕ) → empty ≡ false
-    → (if blank && empty then [] else b ∷ left) ≡ b ∷ left
-kept b true true left e = cc
-kept b true false left e = refl
-kept b false empty left e = refl
-
 -- any other byte after a text is kept, and what stands before it
 pub with_byte : (text : List ℕ) (byte : ℕ) → (byte == 32) ≡ false
     → trimmed (text ++ byte ∷ []) ≡ text ++ byte ∷ []
 with_byte [] byte other = ap (λ (blank : Bool). if blank && true then [] else byte ∷ []) other
-with_byte (b ∷ text) byte other =
-    ap (λ (left : List ℕ). if b == 32 && length left == 0 then [] else b ∷ left)
-    (with_byte text byte other)
-    ∙ kept b (b == 32) (length (text ++ byte ∷ []) == 0) (text ++ byte ∷ [])
-    (not_empty text byte)
+with_byte (b ∷ text) byte other = let more = not_empty text byte in
+    rw (with_byte text byte other) (grind arith)
 
 -- so with the bytes of a name up to a place
 pub same_blank : (name : List ℕ) (i d : ℕ) → i < length name → get_or name i d ≡ 32

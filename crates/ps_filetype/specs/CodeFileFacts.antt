@@ -2,11 +2,10 @@
 -- codes, and not by the steps of a search.
 -- Source: this project's profile, over the segment dictionaries of UCSD Pascal II.0, III.0 and
 -- IV.0.
-use Rattle.std.specs.Prelude.{◌≡◌, ◌≢◌, ◌⊎◌, ℕ, ◌+◌, ◌-◌, ◌*◌, ◌/◌, ◌%◌, ◌<◌, ◌≤◌, true, false, List, [], ◌∷◌, length, slice_get, slice_index, take, Some, Ok}
+use Rattle.std.specs.Prelude.{◌≡◌, ◌≢◌, ◌⊎◌, ℕ, ◌+◌, ◌-◌, ◌*◌, ◌/◌, ◌%◌, ◌<◌, ◌≤◌, true, false, List, length, slice_get, slice_index, take, Some, Ok}
 use Rattle.std.specs.List.{All}
 use Rattle.ps_words.specs.Words.{word_at}
 use Rattle.ps_words.specs.declared.order.Order.{Order}
-use Rattle.ps_words.specs.declared.order.Order.TheVariants.{Little, Big}
 use Rattle.ps_codefile.specs.Dictionary.{OpenedFile, code_of, entry_at, is_filled, is_nameless, name_at}
 use Rattle.ps_codefile.specs.Opened.{opened}
 use Rattle.ps_codefile.specs.declared.dictionary_layout.TheConstants.{SLOTS}
@@ -154,36 +153,3 @@ pub record IsCodeFileAsItOughtToBe (file : List ℕ) : Type 0 where
   pub not_later : IsOfLaterRelease file → ⊥
   pub not_exchanged : (IsExchangedToLink read.order read.file
       ⊎ IsExchangedLinked read.order read.file) → ⊥
-
--- 6. each slot that is filled has its code within the file: none is cut
-abbrev pub AreWithin : Order → List ℕ → Type 0
-AreWithin order file = EachSlot (λ slot. is_filled (entry_at order file slot) ≡ true
-    → 512 * (entry_at order file slot).address + (entry_at order file slot).length ≤ length file)
-
--- 7. bytes exchanged in pairs; a last one without another stays
-abbrev pub exchanged : List ℕ → List ℕ
-exchanged [] = []
-exchanged (a ∷ []) = a ∷ []
-exchanged (a ∷ b ∷ bytes) = b ∷ a ∷ exchanged bytes
-
-abbrev pub other_order : Order → Order
-other_order Little = Big
-other_order Big = Little
-
--- a code has an even length, and each word of a procedure in it leads to an even place, as a compiler
--- writes them
-pub record IsOfWords (order : Order) (code : List ℕ) : Type 0 where
-  pub half : ℕ
-  pub even : length code ≡ 2 * half
-  pub tables : (number : ℕ) → 2 + 2 * number ≤ length code
-      → (m : ℕ) × (table_place order code number ≡ 2 * m)
-
--- the last byte of a code says how many procedures it has, and each has its number in its own place
-abbrev pub EndsWithProcedures : Order → List ℕ → Type 0
-EndsWithProcedures order code = HasProcedures order code (slice_index code (length code - 1)) 0
-
--- so it is with its bytes exchanged and read in the other order, and not as they stand
-abbrev pub IsRightOnceExchanged : Order → List ℕ → Type 0
-IsRightOnceExchanged order code = (2 ≤ length code)
-    × EndsWithProcedures (other_order order) (exchanged code)
-    × (EndsWithProcedures order code → ⊥)

@@ -25,10 +25,7 @@ pub use bytes::only_byte;
 pub use code_file::{CodeFile, has_procedure_dictionary, is_code_type, is_host_type, is_swapped};
 pub use file_type::FileType;
 pub use images::Image;
-pub use laws::{
-    bytes_behind_a_file_change_nothing, code_files_are_as_they_ought_to_be,
-    exchanged_codes_are_found,
-};
+pub use laws::code_files_are_as_they_ought_to_be;
 pub use line_ends::LineEnds;
 pub use name::ShownName;
 pub use odd_names::{Oddity, has_any, is_near, is_respelled, oddity_of, plain};
