@@ -1,4 +1,9 @@
 pub mod Paths
 pub mod Lengths
 pub mod Origins
+pub mod RoundTurns
+pub mod SlotsRead
+pub mod Requesters
+pub mod Entries
+pub mod SeenParts
 pub mod SeenFacts

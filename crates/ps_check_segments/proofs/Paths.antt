@@ -9,11 +9,7 @@ use Rattle.ps_check_segments.specs.Paths.{path_of}
 
 pub path_read : (paths : List (Bor (List ℕ))) (k : ℕ) (path : Bor (List ℕ))
     → slice_get paths k ≡ Some path → path.now ≡ path_of (contents paths) k
-path_read paths k path found =
-    let read : slice_get (contents paths) k ≡ Some path.now =
-    slice_get-map (λ (b : Bor (List ℕ)). b.now) paths k
-    ∙ ap (option_map (λ (b : Bor (List ℕ)). b.now)) found in
-    sym (ap (λ (o : Option (List ℕ)). unwrap_or o []) read)
+path_read paths k path found = grind (arith, slice_get-map)
 
 pub path_past : (paths : List (Bor (List ℕ))) (k : ℕ) → length paths ≤ k
     → path_of (contents paths) k ≡ []
@@ -23,5 +19,4 @@ path_past (p ∷ paths) (suc k) h = path_past paths k (omega (arith, h))
 
 pub path_rest : (first : List ℕ) (paths : List (List ℕ)) (file : ℕ) → 0 < file
     → path_of paths (file - 1) ≡ path_of (first ∷ paths) file
-path_rest first paths zero h = absurd (omega (arith, h))
-path_rest first paths (suc k) h = let on : suc k - 1 ≡ k = omega arith in ap (path_of paths) on
+path_rest first paths file h = grind arith
