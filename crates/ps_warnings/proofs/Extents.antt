@@ -7,7 +7,8 @@ use Rattle.ps_words.specs.Words.{blocks}
 use Rattle.ps_words.specs.declared.fault.Reason.{Reason}
 use Rattle.ps_codefile.specs.Dictionary.{OpenedFile, code_of, entry_at, is_filled, kind_needs_linking}
 use Rattle.ps_codefile.specs.declared.entry.Entry.{Entry}
-use Rattle.ps_warnings.specs.FileFindings.{extent, extent_at, information_end}
+use Rattle.ps_warnings.specs.Searches.FileFindings.{extent, extent_at}
+use Rattle.ps_warnings.specs.SegmentSizes.{information_end}
 use Rattle.ps_warnings.specs.WarnedFiles.{HasByte}
 use Rattle.ps_warnings.specs.declared.findings.extents.Extent.{Extent}
 

@@ -16,8 +16,9 @@ use Rattle.ps_filetype.specs.Names.{is_respelled}
 use Rattle.ps_check_segments.specs.Paths.{host_order, path_of}
 use Rattle.ps_check_segments.specs.Seen.{Seen, host_records}
 use Rattle.ps_check_segments.specs.SeenSegments.{is_of_host, seen_in, seen_of, seen_read, seen_segment, seen_segments, unplaced}
-use Rattle.ps_warnings.specs.AllFindings.{all_findings, findings_of_file, findings_of_files, findings_of_link, findings_of_unit, findings_of_units, link_findings_of}
-use Rattle.ps_warnings.specs.FileFindings.{data_size, definition_findings, extent_at, findings_of_code_file, findings_of_entries, findings_of_records, findings_of_segment, findings_of_slot, overlap_finding}
+use Rattle.ps_warnings.specs.Searches.AllFindings.{all_findings, findings_of_file, findings_of_files, findings_of_link, findings_of_unit, findings_of_units, link_findings_of}
+use Rattle.ps_warnings.specs.Searches.FileFindings.{definition_findings, extent_at, findings_of_code_file, findings_of_entries, findings_of_records, findings_of_segment, findings_of_slot, overlap_finding}
+use Rattle.ps_warnings.specs.SegmentSizes.{data_size}
 use Rattle.ps_warnings.specs.Found.{Stated}
 use Rattle.ps_warnings.specs.SmallFiles.{demo, host_until, pair_until, small_library}
 use Rattle.ps_warnings.specs.declared.finding.Finding.TheVariants as which

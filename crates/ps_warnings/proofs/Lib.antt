@@ -4,10 +4,11 @@ pub mod Slots
 pub mod Warned
 pub mod WarnedPublics
 pub mod WarnedSlots
-pub mod InLists
+pub mod FoundFirst
 pub mod FoundAt
 pub mod InFiles
 pub mod Extents
 pub mod Said
 pub mod SaidEach
 pub mod GoodFiles
+pub mod HasWarned

@@ -1,9 +1,11 @@
 -- Each finding about the link is so: what is found in records, of entries and of units.
-use Rattle.std.proofs.Common.{◌≡◌, ◌∙◌, ◌*◌, ◌<◌, ℕ, Bool, true, false, List, ◌++◌, Option, Some, None, refl, ap, subst, sym, inl, inr, arith}
-use Rattle.std.specs.Prelude.{◌⊎◌, ◌==◌, ◌&&◌, if◌then◌else◌, nat_lt, Result, Ok, Err, find, slice_get, take, unwrap_or}
+use Rattle.std.proofs.Common.{◌≡◌, ◌∙◌, ◌+◌, ◌*◌, ◌<◌, ◌≤◌, ℕ, Bool, true, false, List, [], ◌∷◌, Option, Some, None, length, refl, ap, subst, sym, inl, inr, arith}
+use Rattle.std.specs.Prelude.{◌⊎◌, ◌==◌, ◌&&◌, if◌then◌else◌, nat_lt, Result, Ok, find, slice_get, take, unwrap_or}
 use Rattle.std.specs.List.{list_any}
 use Rattle.std.specs.Option.{option_map, option_map_or}
 use Rattle.std.proofs.lemmas.Bool.{both_ways, cases_lt, eqb-true, eq-eqb, and_from, and_parts, or_cases, ltb-true}
+use Rattle.std.proofs.lemmas.Map.Keys.{any_passes_from_place}
+use Rattle.std.proofs.lemmas.Option.{same_Some}
 use Rattle.std.proofs.lemmas.Slice.Eq.{bytes_eq-Decides}
 use Rattle.std.specs.Str.{bytes_eq}
 use Rattle.ps_words.specs.declared.fault.Reason.{Reason}
@@ -15,33 +17,33 @@ use Rattle.ps_codefile.specs.declared.entry.Role.{Role}
 use Rattle.ps_codefile.specs.declared.entry.Role.TheVariants as role
 use Rattle.ps_linkinfo.specs.Numbered.{numbered_records}
 use Rattle.ps_linkinfo.specs.declared.record.LinkRecord.{LinkRecord as Record}
-use Rattle.ps_resolve.proofs.Items.{In}
+use Rattle.ps_resolve.specs.Standing.Phrases.{SomeItem}
 use Rattle.ps_check_segments.specs.Paths.{path_of}
 use Rattle.ps_check_segments.specs.Seen.{Seen, has_slot, host_records}
 use Rattle.ps_check_segments.specs.SegmentParts.{is_unit}
 use Rattle.ps_check_segments.specs.declared.segments.SegmentPart.{SegmentPart}
 use Rattle.ps_filetype.specs.Names.{is_respelled}
-use Rattle.ps_warnings.specs.AllFindings.{findings_of_unit}
-use Rattle.ps_warnings.specs.EntryFindings.{empty_finding, empty_slot, overlap, shares}
-use Rattle.ps_warnings.specs.FileFindings.{comes_from, data_size, definition_findings, extent_at, findings_of_records, host_met}
+use Rattle.ps_warnings.specs.Searches.AllFindings.{findings_of_unit}
+use Rattle.ps_warnings.specs.Searches.EntryFindings.{empty_finding, empty_slot, shares}
+use Rattle.ps_warnings.specs.Searches.FileFindings.{comes_from, definition_findings, extent_at, findings_of_records, host_met}
+use Rattle.ps_warnings.specs.SegmentSizes.{data_size}
 use Rattle.ps_warnings.specs.Found.{Stated, found_at, found_in_record}
-use Rattle.ps_warnings.specs.LinkFindings.{is_near_unit, other_spelling, taken_by, taken_slot}
-use Rattle.ps_warnings.specs.RecordFindings.{end_mark, first_above, first_definition, first_past, first_public, is_missed, is_requested, low_mark}
-use Rattle.ps_warnings.specs.Warned.{IsEndMark}
-use Rattle.ps_warnings.specs.WarnedFiles.{FileSegment, IsLinkedFrom, IsLookedAt, IsMet, IsSo, Share, entry_of}
+use Rattle.ps_warnings.specs.Searches.LinkFindings.{is_near_unit, other_spelling, taken_by, taken_slot}
+use Rattle.ps_warnings.specs.Searches.RecordFindings.{end_mark, first_above, first_definition, first_past, first_public, is_missed, is_requested, low_mark}
+use Rattle.ps_warnings.specs.WarnedFiles.{AreInOrder, AscendFrom, FileSegment, IsAt, IsLinkedFrom, IsLookedAt, IsMet, IsNumber, IsSo, Share, entry_of}
+use Rattle.ps_warnings.specs.Warned.{IsOwn}
 use Rattle.ps_warnings.specs.declared.finding.EntryFinding.TheVariants as entry
 use Rattle.ps_warnings.specs.declared.finding.Finding.{Finding}
 use Rattle.ps_warnings.specs.declared.finding.Finding.TheVariants as which
 use Rattle.ps_warnings.specs.declared.finding.LinkFinding.TheVariants as link
-use Rattle.ps_warnings.specs.declared.finding.RecordFinding.TheVariants as finding
 use Rattle.ps_warnings.specs.declared.findings.extents.Extent.{Extent}
 use Rattle.ps_warnings.proofs.Extents.{HasExtent, HasNone, byte_at_block, extent_is, has_first}
-use Rattle.ps_warnings.proofs.FoundAt.{at_made, made, of_found_at, of_in_record}
-use Rattle.ps_warnings.proofs.InFiles.{FromEmpty, FromExtent, FromFile, FromUnit, extents_in, from_one, met, of_all, of_extent, of_segment, of_unit}
-use Rattle.ps_warnings.proofs.InLists.{in_any, of_any, of_find, of_joined, of_map, of_none, of_take}
+use Rattle.ps_warnings.proofs.FoundAt.{at_made, found_has, made, record_has}
+use Rattle.ps_warnings.proofs.InFiles.{all_ascend, extents_in, met, of_all, of_empty, of_extent, of_segment, of_unit}
+use Rattle.ps_lists.proofs.Items.{Ascends, if_both, item_of, none, of_any, of_find, of_map, of_take, one_then, wider}
 use Rattle.ps_warnings.proofs.Slots.{in_slot, no_slot, of_host, of_unit as of_definitions}
-use Rattle.ps_warnings.proofs.Warned.{HighFound, PastFound, high_found, low_found, none, past_found, same}
-use Rattle.ps_warnings.proofs.WarnedPublics.{DefinitionFound, MarkFound, definition_found, mark_found, missed_own, own_missed}
+use Rattle.ps_warnings.proofs.Warned.{high_found, low_found, past_found}
+use Rattle.ps_warnings.proofs.WarnedPublics.{definition_found, mark_found, missed_own, own_missed}
 use Rattle.ps_warnings.proofs.WarnedSlots.{empty_found, respelled_found, taken_found}
 
 -- 1. options and kinds
@@ -66,11 +68,6 @@ missed_met rs None name h = absurd (both_ways (is_missed rs None name) (unmet (i
     unmet true = refl
     unmet false = refl
 missed_met rs (Some hs) name h = (hs, refl, h)
-
-if_both : {X : Type 0} (c : Bool) (o : Option X) (x : X) → (if c then o else None) ≡ Some x
-    → (c ≡ true) × (o ≡ Some x)
-if_both true o x h = (refl, h)
-if_both false o x h = none x _ h
 
 pub unit_kind : (kind : ℕ) → kind_needs_linking kind ≡ true → (kind == 1) ≡ false → kind ≡ 3
 unit_kind kind n h = elim (or_cases (kind == 1) (kind == 3) n) [
@@ -119,7 +116,7 @@ module _ (list : List Seen) (g : FileSegment) where
       → host_met list g.number (entry_of g).name (host_records list) ≡ Some hs
   met_is hs (program, (k, s, at, (file, named))) =
       ap (λ (b : Bool). if b then host_records list else None)
-      (in_any (comes_from g.number (entry_of g).name) list k s at
+      (any_passes_from_place (comes_from g.number (entry_of g).name) list k s at
       (is_from g.number (entry_of g).name s file named)) ∙ program
 
 -- 2. an empty slot
@@ -127,18 +124,14 @@ empty_role : (slot : ℕ) (taken : Bool) (e : Entry) (r : Result Role Reason) (f
     → empty_finding slot taken e r ≡ Some f
     → (r ≡ Ok role.Empty) × (empty_slot slot taken e ≡ Some f)
 empty_role slot taken e (Ok role.Empty) f h = (refl, h)
-empty_role slot taken e (Ok role.Wanted) f h = none f _ h
-empty_role slot taken e (Ok role.Plain) f h = none f _ h
-empty_role slot taken e (Ok role.Host) f h = none f _ h
-empty_role slot taken e (Ok role.Unit) f h = none f _ h
-empty_role slot taken e (Err why) f h = none f _ h
+empty_role slot taken e other f h = none f _ h
 
 -- 3. entries that overlap
 overlap_of : (m : Option Extent) (f : Finding)
     → option_map (λ (o : Extent). which.Entry (entry.Overlap o.slot)) m ≡ Some f
     → (o : Extent) × (m ≡ Some o) × (f ≡ which.Entry (entry.Overlap o.slot))
 overlap_of None f h = none f _ h
-overlap_of (Some o) f h = (o, refl, sym (same (which.Entry (entry.Overlap o.slot)) f h))
+overlap_of (Some o) f h = (o, refl, sym (same_Some (which.Entry (entry.Overlap o.slot)) f h))
 
 pub shares_parts : (x o : Extent) → shares x o ≡ true
     → (o.slot < x.slot) × (o.start < x.end) × (x.start < o.end)
@@ -188,16 +181,15 @@ spelling_of : (m : Option Seen) (f : Finding)
     → option_map (λ (o : Seen). which.Link (link.OtherSpelling o.name)) m ≡ Some f
     → (o : Seen) × (m ≡ Some o) × (f ≡ which.Link (link.OtherSpelling o.name))
 spelling_of None f h = none f _ h
-spelling_of (Some o) f h = (o, refl, sym (same (which.Link (link.OtherSpelling o.name)) f h))
+spelling_of (Some o) f h = (o, refl, sym (same_Some (which.Link (link.OtherSpelling o.name)) f h))
 
--- 5. each finding is so
+-- 5. each finding is so, and has its number
 module _ (paths : List (List ℕ)) (host : List ℕ) (libs : List (List ℕ)) (list : List Seen) where
-  abbrev So : Stated → Finding → Type 0
-  So s f = IsSo paths host libs list s f
+  abbrev Right : ℕ → Stated → Type 0
+  Right n s = IsSo paths host libs list s s.finding × IsNumber paths host libs list n s
 
-  as_made : (path : List ℕ) (segment : Option (List ℕ)) (rec : Option ℕ) (f : Finding) (s : Stated)
-      → s ≡ made path segment rec f → So (made path segment rec f) f → So s s.finding
-  as_made path segment rec f s e h = subst (λ (t : Stated). So t t.finding) (sym e) h
+  ordered : (a b : ℕ) → a ≤ b → Ascends Right a b []
+  ordered a b le = le
 
   -- of a segment
   module _ (g : FileSegment) (is : IsLinkedFrom host libs g) where
@@ -207,205 +199,161 @@ module _ (paths : List (List ℕ)) (host : List ℕ) (libs : List (List ℕ)) (l
     abbrev segment : Option (List ℕ)
     segment = Some (entry_of g).name
 
+    abbrev place : ℕ
+    place = 32 * g.number + g.slot
+
     abbrev host_of : Option (List Record)
     host_of = met paths host libs list g.number (entry_of g).name
 
-    abbrev at : Option ℕ → Finding → Stated
-    at rec f = made path segment rec f
+    -- these findings are right, and have the numbers from this turn on and before that one
+    abbrev Turns : ℕ → ℕ → List Stated → Type 0
+    Turns a b l = Ascends Right (10 * place + a) (10 * place + b) l
 
-    past_at : (i : ℕ) (f : Finding) → PastFound g.code g.records i f → So (at (Some i) f) f
-    past_at i f (place, d, w, e, h) = subst (λ (q : Finding). So (at (Some i) f) q) (sym e)
-        (g, i, is, at_made path segment (Some i) f, h)
+    at : (rec : Option ℕ) (f : Finding) → IsAt (made path segment rec f) path segment rec
+    at rec f = at_made path segment rec f
 
-    so_past : (s : Stated) → In s (found_in_record path segment
-        (first_past g.code (numbered_records 0 g.records))) → So s s.finding
-    so_past s t = let u = of_in_record path segment
-        (first_past g.code (numbered_records 0 g.records)) s t in
-        as_made path segment (Some u.0) u.1 s u.3
-        (past_at u.0 u.1 (past_found g.code g.records u.0 u.1 u.2))
+    pasts : Turns 0 1 (found_in_record path segment (first_past g.code (numbered_records 0 g.records)))
+    pasts = record_has Right (10 * place + 0) (10 * place + 0) (10 * place + 1)
+        (omega arith) (omega arith) path segment _ (λ i f h.
+        let r = past_found g.code g.records i f h in
+        rw r.3 ((g, i, is, at (Some i) _, r.4), (place, (g, i, is, at (Some i) _, refl), refl)))
 
-    public_at : (hs : List Record) (i : ℕ) (f : Finding) → IsMet list g hs
-        → MarkFound g.code hs g.records i f → So (at (Some i) f) f
-    public_at hs i f m (place, name, d, v, n, e, h) =
-        subst (λ (q : Finding). So (at (Some i) f) q) (sym e)
-        (g, i, is, at_made path segment (Some i) f, (hs, m, h))
-
-    so_public : (s : Stated) → In s (found_in_record path segment
-        (first_public g.code host_of (numbered_records 0 g.records))) → So s s.finding
-    so_public s t = let u = of_in_record path segment
-        (first_public g.code host_of (numbered_records 0 g.records)) s t in
-        let m = public_met g.code host_of g.records (u.0, u.1) u.2 in
-        as_made path segment (Some u.0) u.1 s u.3
-        (public_at m.0 u.0 u.1 (is_met list g m.0 m.1) (mark_found g.code m.0 g.records u.0 u.1 m.2))
-
-    low_at : (f : Finding) (size : ℕ) → (entry_of g).kind ≡ 1
-        → data_size g.file.order g.code ≡ Some size
-        → ((next : ℕ) × (f ≡ which.Record (finding.LowMark next size)) × IsEndMark g.records next
-        × (2 * next < size)) → So (at None f) f
-    low_at f size k sized (next, e, m, lt) = subst (λ (q : Finding). So (at None f) q) (sym e)
-        (g, is, at_made path segment None f, (k, sized, m, lt))
-
-    so_low : (s : Stated) → (entry_of g).kind ≡ 1 → In s (found_at path segment None
-        (low_mark (end_mark g.records) (data_size g.file.order g.code))) → So s s.finding
-    so_low s k t = let u = of_found_at path segment None
-        (low_mark (end_mark g.records) (data_size g.file.order g.code)) s t in
-        let z = low_sized (end_mark g.records) (data_size g.file.order g.code) u.0 u.1 in
-        as_made path segment None u.0 s u.2 (low_at u.0 z.0 k z.1 (low_found g.records z.0 u.0
-        (sym (ap (λ (o : Option ℕ). low_mark (end_mark g.records) o) z.1) ∙ u.1)))
-
-    high_at : (i : ℕ) (f : Finding) → (entry_of g).kind ≡ 1 → HighFound g.records i f
-        → So (at (Some i) f) f
-    high_at i f k (next, value, name, e, m, h) =
-        subst (λ (q : Finding). So (at (Some i) f) q) (sym e)
-        (g, i, is, at_made path segment (Some i) f, (k, m, h))
-
-    so_high : (s : Stated) → (entry_of g).kind ≡ 1 → In s (found_in_record path segment
-        (first_above g.records)) → So s s.finding
-    so_high s k t = let u = of_in_record path segment (first_above g.records) s t in
-        as_made path segment (Some u.0) u.1 s u.3
-        (high_at u.0 u.1 k (high_found g.records u.0 u.1 u.2))
-
-    own_at : (i : ℕ) (f : Finding) → (entry_of g).kind ≡ 3
-        → DefinitionFound true g.records host_of i f → So (at (Some i) f) f
-    own_at i f k (name, e, v, m) = let z = missed_met g.records host_of name m in
-        subst (λ (q : Finding). So (at (Some i) f) q) (sym e) (
-          g,
-          i,
-          is,
-          at_made path segment (Some i) f,
-          (
-            k,
-            (
-              z.0,
-              is_met list g z.0 z.1,
-              missed_own z.0 g.records i name v z.2,
-            ),
-          ),
-        )
-
-    unit_at : (i : ℕ) (f : Finding) → (entry_of g).kind ≡ 3
-        → DefinitionFound false g.records host_of i f → So (at (Some i) f) f
-    unit_at i f k (name, e, v, m) = subst (λ (q : Finding). So (at (Some i) f) q) (sym e) (
-      g,
-      i,
-      is,
-      at_made path segment (Some i) f,
-      (
-        k,
-        v,
-        λ hs met own.
-            both_ways (is_missed g.records host_of name) m
-            (ap (λ (o : Option (List Record)). is_missed g.records o name) (met_is list g hs met)
-            ∙ own_missed hs g.records i name own),
-      ),
-    )
-
-    so_definition : (b : Bool) (s : Stated)
-        → ((i : ℕ) (f : Finding) → DefinitionFound b g.records host_of i f → So (at (Some i) f) f)
-        → In s (found_in_record path segment
-        (first_definition b g.records host_of (numbered_records 0 g.records))) → So s s.finding
-    so_definition b s so t = let u = of_in_record path segment
-        (first_definition b g.records host_of (numbered_records 0 g.records)) s t in
-        as_made path segment (Some u.0) u.1 s u.3
-        (so u.0 u.1 (definition_found b g.records host_of u.0 u.1 u.2))
-
-    so_defined : (s : Stated) (b : Bool) → ((entry_of g).kind == 1) ≡ b
-        → In s (definition_findings path segment host_of (entry_of g).kind
-        (data_size g.file.order g.code) g.records) → So s s.finding
-    so_defined s true h t = elim (of_joined (found_at path segment None
-        (low_mark (end_mark g.records) (data_size g.file.order g.code)))
-        (found_in_record path segment (first_above g.records)) s
-        (subst (λ (l : List Stated). In s l) (of_host path segment host_of (entry_of g).kind
-        (data_size g.file.order g.code) g.records h) t)) [
-          | inl u ↦ so_low s (eqb-true (entry_of g).kind 1 h) u
-          | inr u ↦ so_high s (eqb-true (entry_of g).kind 1 h) u
-        ]
-    so_defined s false h t = let k = unit_kind (entry_of g).kind is.linked h in
-        elim (of_joined (found_in_record path segment
-        (first_definition true g.records host_of (numbered_records 0 g.records)))
-        (found_in_record path segment
-        (first_definition false g.records host_of (numbered_records 0 g.records))) s
-        (subst (λ (l : List Stated). In s l) (of_definitions path segment host_of (entry_of g).kind
-        (data_size g.file.order g.code) g.records h) t)) [
-          | inl u ↦ so_definition true s (λ i f d. own_at i f k d) u
-          | inr u ↦ so_definition false s (λ i f d. unit_at i f k d) u
-        ]
-
-    so_records : (s : Stated) → In s (of_segment paths host libs list g) → So s s.finding
-    unfolding findings_of_records
-    so_records s t = elim (of_joined (found_in_record path segment
-        (first_past g.code (numbered_records 0 g.records)) ++ found_in_record path segment
+    publics : Turns 1 2 (found_in_record path segment
         (first_public g.code host_of (numbered_records 0 g.records)))
-        (definition_findings path segment host_of (entry_of g).kind
-        (data_size g.file.order g.code) g.records) s t) [
-          | inl u ↦ elim (of_joined (found_in_record path segment
-              (first_past g.code (numbered_records 0 g.records))) (found_in_record path segment
-              (first_public g.code host_of (numbered_records 0 g.records))) s u) [
-                | inl v ↦ so_past s v
-                | inr v ↦ so_public s v
-              ]
-          | inr u ↦ so_defined s ((entry_of g).kind == 1) refl u
-        ]
+    publics = record_has Right (10 * place + 1) (10 * place + 1) (10 * place + 2)
+        (omega arith) (omega arith) path segment _ (λ i f h.
+        let m = public_met g.code host_of g.records (i, f) h in
+        let r = mark_found g.code m.0 g.records i f m.2 in
+        rw r.5 (
+          (g, i, is, at (Some i) _, (m.0, is_met list g m.0 m.1, r.6)),
+          (place, (g, i, is, at (Some i) _, refl), refl),
+        ))
+
+    lows : (entry_of g).kind ≡ 1 → Turns 2 3 (found_at path segment None
+        (low_mark (end_mark g.records) (data_size g.file.order g.code)))
+    lows k = found_has Right (10 * place + 2) (10 * place + 2) (10 * place + 3)
+        (omega arith) (omega arith) path segment None _ (λ f h.
+        let z = low_sized (end_mark g.records) (data_size g.file.order g.code) f h in
+        let r = low_found g.records z.0 f (rw z.1 at h) in
+        rw r.1 ((g, is, at None _, (k, z.1, r.2, r.3)), (place, (g, is, at None _, refl), refl)))
+
+    highs : (entry_of g).kind ≡ 1 → Turns 3 4 (found_in_record path segment (first_above g.records))
+    highs k = record_has Right (10 * place + 3) (10 * place + 3) (10 * place + 4)
+        (omega arith) (omega arith) path segment _ (λ i f h.
+        let r = high_found g.records i f h in
+        rw r.3 (
+          (g, i, is, at (Some i) _, (k, r.4, r.5)),
+          (place, (g, i, is, at (Some i) _, refl), refl),
+        ))
+
+    owns : (entry_of g).kind ≡ 3 → Turns 4 5 (found_in_record path segment
+        (first_definition true g.records host_of (numbered_records 0 g.records)))
+    owns k = record_has Right (10 * place + 4) (10 * place + 4) (10 * place + 5)
+        (omega arith) (omega arith) path segment _ (λ i f h.
+        let r = definition_found true g.records host_of i f h in
+        let z = missed_met g.records host_of r.0 r.3 in
+        let own = missed_own z.0 g.records i r.0 r.2 z.2 in
+        rw r.1 (
+          (g, i, is, at (Some i) _, (k, (z.0, is_met list g z.0 z.1, own))),
+          (place, (g, i, is, at (Some i) _, refl), refl),
+        ))
+
+    others : (entry_of g).kind ≡ 3 → Turns 5 6 (found_in_record path segment
+        (first_definition false g.records host_of (numbered_records 0 g.records)))
+    others k = record_has Right (10 * place + 5) (10 * place + 5) (10 * place + 6)
+        (omega arith) (omega arith) path segment _ (λ i f h.
+        let r = definition_found false g.records host_of i f h in
+        let never = λ (hs : List Record) (met : IsMet list g hs) (own : IsOwn hs g.records i r.0).
+        both_ways (is_missed g.records host_of r.0) r.3
+        (ap (λ (o : Option (List Record)). is_missed g.records o r.0) (met_is list g hs met)
+        ∙ own_missed hs g.records i r.0 own) in
+        rw r.1 (
+          (g, i, is, at (Some i) _, (k, r.2, never)),
+          (place, (g, i, is, at (Some i) _, refl), refl),
+        ))
+
+    defined : (b : Bool) → ((entry_of g).kind == 1) ≡ b → Turns 2 6 (definition_findings path segment
+        host_of (entry_of g).kind (data_size g.file.order g.code) g.records)
+    defined true h = let k = eqb-true (entry_of g).kind 1 h in
+        rw of_host (wider Right (10 * place + 2) (10 * place + 2) (10 * place + 4) (10 * place + 6) _
+        (one_then Right (10 * place + 2) (10 * place + 3) (10 * place + 3) (10 * place + 4) _ _
+        (lows k) (highs k) (omega arith)) (omega arith) (omega arith))
+    defined false h = let k = unit_kind (entry_of g).kind is.linked h in
+        rw of_definitions (wider Right (10 * place + 2) (10 * place + 4) (10 * place + 6)
+        (10 * place + 6) _ (one_then Right (10 * place + 4) (10 * place + 5) (10 * place + 5)
+        (10 * place + 6) _ _ (owns k) (others k) (omega arith)) (omega arith) (omega arith))
+
+    segments : Ascends Right (10 * place) (10 * place + 10) (of_segment paths host libs list g)
+    unfolding findings_of_records
+    segments = wider Right (10 * place) (10 * place + 0) (10 * place + 6) (10 * place + 10) _
+        (one_then Right (10 * place + 0) (10 * place + 2) (10 * place + 2) (10 * place + 6) _ _
+        (one_then Right (10 * place + 0) (10 * place + 1) (10 * place + 1) (10 * place + 2) _ _
+        pasts publics (omega arith)) (defined ((entry_of g).kind == 1) refl) (omega arith))
+        (omega arith) (omega arith)
 
   -- of an empty slot
-  so_empty : (s : Stated) → FromEmpty paths host libs list s → So s s.finding
-  so_empty s (number, f, slot, first, looked, below, t) =
+  empties : (number : ℕ) (f : OpenedFile) (slot : ℕ) → number ≡ 0 → IsLookedAt host libs number f
+      → slot < SLOTS → Ascends Right (10 * (32 * number + slot)) (10 * (32 * number + slot) + 10)
+      (of_empty paths host libs list number f slot)
+  empties number f slot first looked below =
+      let place = 32 * number + slot in
       let e = entry_at f.order f.file slot in
       let taken = list_any (has_slot slot) list in
-      let u = of_found_at (path_of paths number) None None (empty_finding slot taken e (role_of e)) s t in
-      let r = empty_role slot taken e (role_of e) u.0 u.1 in
-      let n = empty_found slot taken e u.0 r.1 in
-      as_made (path_of paths number) None None u.0 s u.2
-      (subst (λ (q : Finding). So (made (path_of paths number) None None u.0) q) (sym n.0) (
-        number,
-        f,
-        slot,
-        looked,
-        below,
-        at_made (path_of paths number) None None u.0,
+      let path = path_of paths number in
+      found_has Right (10 * place) (10 * place + 0) (10 * place + 10) (omega arith) (omega arith)
+      path None None _ (λ q h.
+      let r = empty_role slot taken e (role_of e) q h in
+      let n = empty_found slot taken e q r.1 in
+      let free = λ (k : SomeItem list (λ j t. t.slot ≡ Some slot)).
+      both_ways taken n.1 (any_passes_from_place (has_slot slot) list k.0 k.1 k.2
+      (slot_has slot k.1 k.3)) in
+      rw n.0 (
         (
-          first,
-          refl,
-          r.0,
-          n.2,
-          refl,
-          refl,
-          λ k. both_ways taken n.1
-              (in_any (has_slot slot) list k.0 k.1 k.2 (slot_has slot k.1 k.3)),
-        ),
-      ))
-
-  -- of entries
-  module _ (number : ℕ) (f : OpenedFile) (looked : IsLookedAt host libs number f) (slot : ℕ)
-      (below : slot < SLOTS) where
-    abbrev x : Extent
-    x = extent_at f.order f.file slot
-
-    abbrev in_file : Option (List ℕ) → Finding → Stated
-    in_file segment q = made (path_of paths number) segment None q
-
-    overlap_at : (q : Finding) (o : Extent) (other : ℕ) → x.slot ≡ slot → o.slot ≡ other
-        → other < slot → Share f slot other → q ≡ which.Entry (entry.Overlap o.slot)
-        → So (in_file (Some (entry_at f.order f.file x.slot).name) q) q
-    overlap_at q o other own its before share is =
-        subst (λ (z : Finding). So (in_file (Some (entry_at f.order f.file x.slot).name) q) z)
-        (sym (is ∙ ap (λ (n : ℕ). which.Entry (entry.Overlap n)) its)) (
           number,
           f,
           slot,
           looked,
           below,
-          record {
-            path = refl;
-            segment = ap (λ (n : ℕ). Some (entry_at f.order f.file n).name) own;
-            rec = refl;
-          },
-          (before, share),
+          at_made path None None _,
+          (first, refl, r.0, n.2, refl, refl, free),
+        ),
+        (place, (number, f, slot, looked, below, at_made path None None _, refl), refl),
+      ))
+
+  -- of entries
+  module _ (number : ℕ) (f : OpenedFile) (slot : ℕ) (looked : IsLookedAt host libs number f)
+      (below : slot < SLOTS) where
+    abbrev x : Extent
+    x = extent_at f.order f.file slot
+
+    abbrev spot : ℕ
+    spot = 32 * number + 16 + slot
+
+    abbrev named : Option (List ℕ)
+    named = Some (entry_at f.order f.file x.slot).name
+
+    abbrev in_file : Finding → Stated
+    in_file q = made (path_of paths number) named None q
+
+    overlap_at : (q : Finding) (o : Extent) (other : ℕ) → x.slot ≡ slot → o.slot ≡ other
+        → other < slot → Share f slot other → q ≡ which.Entry (entry.Overlap o.slot)
+        → Right (10 * spot + 0) (in_file q)
+    overlap_at q o other own its before share is =
+        let there : IsAt (in_file (which.Entry (entry.Overlap other))) (path_of paths number)
+        (Some (entry_at f.order f.file slot).name) None = record {
+          path = refl;
+          segment = ap (λ (n : ℕ). Some (entry_at f.order f.file n).name) own;
+          rec = refl;
+        } in
+        subst (λ (z : Finding). Right (10 * spot + 0) (in_file z))
+        (sym (is ∙ ap (λ (n : ℕ). which.Entry (entry.Overlap n)) its)) (
+          (number, f, slot, looked, below, there, (before, share)),
+          (spot, (number, f, slot, looked, below, there, refl), refl),
         )
 
     overlap_with : (q : Finding) (o : Extent) (other : ℕ) → extent_at f.order f.file other ≡ o
         → shares x o ≡ true → q ≡ which.Entry (entry.Overlap o.slot)
-        → So (in_file (Some (entry_at f.order f.file x.slot).name) q) q
+        → Right (10 * spot + 0) (in_file q)
     overlap_with q o other from sharing is = let p = shares_parts x o sharing in
         let hx = has_some f slot o.start x p.1 (extent_is f slot) in
         let ho = has_some f other x.start o p.2 (subst (λ (y : Extent).
@@ -414,103 +362,100 @@ module _ (paths : List (List ℕ)) (host : List ℕ) (libs : List (List ℕ)) (l
         overlap_at q o other own its (omega (arith, own, its, before))
         (share_of f slot other x o hx ho p.1 p.2) is
 
-    so_extent : (s : Stated) (b : Bool) → nat_lt x.slot SLOTS ≡ b
-        → In s (of_extent paths host libs list number f x) → So s s.finding
-    so_extent s true h t = let segment = Some (entry_at f.order f.file x.slot).name in
-        let u = of_found_at (path_of paths number) segment None (overlap (extents_in f) x) s
-        (subst (λ (l : List Stated). In s l) (in_slot (path_of paths number) f.order f.file
-        (extents_in f) x h) t) in
-        let o = overlap_of (find (shares x) (extents_in f)) u.0 u.1 in
+    overlaps_by : (b : Bool) → nat_lt x.slot SLOTS ≡ b → Ascends Right (10 * spot) (10 * spot + 10)
+        (of_extent paths host libs list number f x)
+    overlaps_by true h = rw (in_slot, h) (found_has Right (10 * spot) (10 * spot + 0)
+        (10 * spot + 10) (omega arith) (omega arith) (path_of paths number) named None _ (λ q is.
+        let o = overlap_of (find (shares x) (extents_in f)) q is in
         let m = of_find (shares x) (extents_in f) o.0 o.1 in
         let from = of_map (extent_at f.order f.file) slots m.0 o.0 m.1 in
-        as_made (path_of paths number) segment None u.0 s u.2
-        (overlap_with u.0 o.0 from.0 from.2 m.2 o.2)
-    so_extent s false h t = of_none s _ (subst (λ (l : List Stated). In s l)
-        (no_slot (path_of paths number) f.order f.file (extents_in f) x h) t)
+        overlap_with q o.0 from.0 from.2 m.2 o.2))
+    overlaps_by false h = rw (no_slot, h) (ordered (10 * spot) (10 * spot + 10) (omega arith))
+
+    overlaps : Ascends Right (10 * spot) (10 * spot + 10) (of_extent paths host libs list number f x)
+    overlaps = overlaps_by (nat_lt x.slot SLOTS) refl
 
   -- of a unit of the link
-  module _ (h : OpenedFile) (opens : opened_alone host ≡ Ok h) (k : ℕ) (t : Seen)
+  module _ (h : OpenedFile) (k : ℕ) (t : Seen) (opens : opened_alone host ≡ Ok h)
       (at : slice_get list k ≡ Some t) where
     abbrev unit_path : List ℕ
     unit_path = path_of paths (unwrap_or t.file 0)
 
-    abbrev of_link : Finding → Stated
-    of_link q = made unit_path (Some t.name) None q
+    abbrev link_place : ℕ
+    link_place = 32 * length (host ∷ libs) + k
 
-    taken_at : (q : Finding) → ((slot : ℕ) × (t.slot ≡ Some slot) × (slot < SLOTS)
-        × (taken_slot slot t.part (entry_at h.order h.file slot) ≡ Some q)) → So (of_link q) q
-    taken_at q (slot, has, below, is) =
-        let n = taken_found slot t.part (entry_at h.order h.file slot) q is in
-        subst (λ (z : Finding). So (of_link q) z) (sym n.0) (
-          h,
-          opens,
-          (
-            k,
-            t,
-            at,
-            (
-              at_made unit_path (Some t.name) None q,
-              (has, below, n.1, n.2, refl),
-            ),
-          ),
-        )
+    there : (q : Finding) → IsAt (made unit_path (Some t.name) None q) unit_path (Some t.name) None
+    there q = at_made unit_path (Some t.name) None q
 
-    near : (o : Seen) (j : ℕ) (q : Finding) → is_unit t.part ≡ true
-        → slice_get (take k list) j ≡ Some o → is_near_unit t.name o ≡ true
-        → q ≡ which.Link (link.OtherSpelling o.name) → So (of_link q) q
-    near o j q unit there is e = let front = of_take k list j o there in
-        let both = and_parts (is_unit o.part) (is_respelled o.name t.name) is in
-        subst (λ (z : Finding). So (of_link q) z) (sym e) (
-          h,
-          opens,
-          (
-            k,
-            t,
-            at,
-            (
-              at_made unit_path (Some t.name) None q,
-              (unit, (j, o, front.1, (front.0, both.0, refl, respelled_found o.name t.name both.1))),
-            ),
-          ),
-        )
+    takens : Ascends Right (10 * link_place + 0) (10 * link_place + 1)
+        (found_at unit_path (Some t.name) None (taken_by h.order h.file t.slot t.part))
+    takens = found_has Right (10 * link_place + 0) (10 * link_place + 0) (10 * link_place + 1)
+        (omega arith) (omega arith) unit_path (Some t.name) None _ (λ q is.
+        let c = taken_cases h.order h.file t.slot t.part q is in
+        let n = taken_found c.0 t.part (entry_at h.order h.file c.0) q c.3 in
+        rw n.0 (
+          (h, opens, (k, t, at, (there _, (c.1, c.2, n.1, n.2, refl)))),
+          (link_place, (h, opens, (k, t, at, (there _, refl))), refl),
+        ))
 
-    so_spelled : (q : Finding) → other_spelling (take k list) t ≡ Some q → So (of_link q) q
-    so_spelled q is = let c = if_both (is_unit t.part)
+    spellings : Ascends Right (10 * link_place + 1) (10 * link_place + 2)
+        (found_at unit_path (Some t.name) None (other_spelling (take k list) t))
+    spellings = found_has Right (10 * link_place + 1) (10 * link_place + 1) (10 * link_place + 2)
+        (omega arith) (omega arith) unit_path (Some t.name) None _ (λ q is.
+        let c = if_both (is_unit t.part)
         (option_map (λ (o : Seen). which.Link (link.OtherSpelling o.name))
         (find (is_near_unit t.name) (take k list))) q is in
         let o = spelling_of (find (is_near_unit t.name) (take k list)) q c.1 in
         let m = of_find (is_near_unit t.name) (take k list) o.0 o.1 in
-        near o.0 m.0 q c.0 m.1 m.2 o.2
+        let front = of_take k list m.0 o.0 m.1 in
+        let both = and_parts (is_unit o.0.part) (is_respelled o.0.name t.name) m.2 in
+        let near = respelled_found o.0.name t.name both.1 in
+        rw o.2 (
+          (
+            h,
+            opens,
+            (
+              k,
+              t,
+              at,
+              (
+                there _,
+                (
+                  c.0,
+                  (
+                    m.0,
+                    o.0,
+                    front.1,
+                    (front.0, both.0, refl, near),
+                  ),
+                ),
+              ),
+            ),
+          ),
+          (link_place, (h, opens, (k, t, at, (there _, refl))), refl),
+        ))
 
-    so_unit : (s : Stated) → In s (of_unit paths host libs list h k t) → So s s.finding
+    units : Ascends Right (10 * link_place) (10 * link_place + 10)
+        (of_unit paths host libs list h k t)
     unfolding findings_of_unit
-    so_unit s u = elim (of_joined (found_at unit_path (Some t.name) None
-        (taken_by h.order h.file t.slot t.part)) (found_at unit_path (Some t.name) None
-        (other_spelling (take k list) t)) s u) [
-          | inl v ↦ (let r = of_found_at unit_path (Some t.name) None
-              (taken_by h.order h.file t.slot t.part) s v in
-              as_made unit_path (Some t.name) None r.0 s r.2
-              (taken_at r.0 (taken_cases h.order h.file t.slot t.part r.0 r.1)))
-          | inr v ↦ (let r = of_found_at unit_path (Some t.name) None
-              (other_spelling (take k list) t) s v in
-              as_made unit_path (Some t.name) None r.0 s r.2 (so_spelled r.0 r.1))
-        ]
+    units = wider Right (10 * link_place) (10 * link_place + 0) (10 * link_place + 2)
+        (10 * link_place + 10) _ (one_then Right (10 * link_place + 0) (10 * link_place + 1)
+        (10 * link_place + 1) (10 * link_place + 2) _ _ takens spellings (omega arith))
+        (omega arith) (omega arith)
 
-  from_extent_so : (s : Stated) → FromExtent paths host libs list s → So s s.finding
-  from_extent_so s (number, f, slot, looked, below, t) = so_extent number f looked slot below s
-      (nat_lt (extent_at f.order f.file slot).slot SLOTS) refl t
+  all_right : Ascends Right 0 (320 * length (host ∷ libs) + 10 * length list)
+      (of_all paths host libs list)
+  all_right = all_ascend paths host libs list Right segments empties overlaps units
 
-  from_unit_so : (s : Stated) → FromUnit paths host libs list s → So s s.finding
-  from_unit_so s (h, k, t, opens, at, u) = so_unit h opens k t at s u
+  pub all_so : (k : ℕ) (s : Stated) → slice_get (of_all paths host libs list) k ≡ Some s
+      → IsSo paths host libs list s s.finding
+  all_so k s at = (item_of Right 0 (320 * length (host ∷ libs) + 10 * length list)
+      (of_all paths host libs list) k s all_right at).1.0
 
-  from_file_so : (s : Stated) → FromFile paths host libs list s → So s s.finding
-  from_file_so s (inl (g, is, t)) = so_records g is s t
-  from_file_so s (inr (inl t)) = so_empty s t
-  from_file_so s (inr (inr t)) = from_extent_so s t
+  ascending : (a b : ℕ) (l : List Stated) → Ascends Right a b l → AscendFrom paths host libs list a l
+  ascending a b [] h = tt
+  ascending a b (s ∷ l) (n, le, r, more) = (n, le, r.1, ascending (n + 1) b l more)
 
-  pub all_so : (k : ℕ) (s : Stated)
-      → slice_get (of_all paths host libs list) k ≡ Some s → So s s.finding
-  all_so k s t = elim (from_one paths host libs list s (k, t)) [
-    | inl u ↦ from_file_so s u
-    | inr u ↦ from_unit_so s u
-  ]
+  pub all_in_order : AreInOrder paths host libs list (of_all paths host libs list)
+  all_in_order = ascending 0 (320 * length (host ∷ libs) + 10 * length list)
+      (of_all paths host libs list) all_right

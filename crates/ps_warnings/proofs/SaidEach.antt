@@ -1,32 +1,31 @@
 -- Whatever is so is said by a finding about the link.
-use Rattle.std.proofs.Common.{◌≡◌, ◌∙◌, ◌+◌, ◌*◌, ◌<◌, ℕ, Bool, true, false, List, ◌++◌, Option, Some, None, refl, ap, subst, sym, arith}
-use Rattle.std.specs.Prelude.{◌⊎◌, ◌==◌, ◌&&◌, ◌||◌, if◌then◌else◌, not, Result, Ok, Err, find, slice_get, take, unwrap_or}
+use Rattle.std.proofs.Common.{◌≡◌, ◌∙◌, ◌+◌, ◌*◌, ◌<◌, ℕ, Bool, true, false, List, ◌++◌, Option, Some, None, refl, subst, sym, arith}
+use Rattle.std.specs.Prelude.{◌⊎◌, ◌==◌, Ok, slice_get, take, unwrap_or}
 use Rattle.std.specs.List.{list_any}
-use Rattle.std.specs.Option.{option_map}
-use Rattle.std.proofs.lemmas.Bool.{and_from, both_ways, eq-eqb, lt-ltb}
-use Rattle.ps_words.specs.declared.fault.Reason.{Reason}
-use Rattle.ps_words.specs.declared.fault.Reason.TheVariants as reason
-use Rattle.ps_codefile.specs.Dictionary.{OpenedFile, entry_at, is_filled, is_nameless, opened_alone, role_of, role_of_kind, slots}
+use Rattle.std.proofs.Math.Nat.{zero-add}
+use Rattle.std.proofs.lemmas.Bool.{and_from, eq-eqb, false_from_ne_true, lt-ltb}
+use Rattle.ps_codefile.specs.Dictionary.{OpenedFile, entry_at, is_filled, opened_alone, role_of, slots}
 use Rattle.ps_codefile.specs.declared.dictionary_layout.TheConstants.{SLOTS}
 use Rattle.ps_codefile.specs.declared.entry.Entry.{Entry}
-use Rattle.ps_codefile.specs.declared.entry.Role.{Role}
 use Rattle.ps_codefile.specs.declared.entry.Role.TheVariants as role
 use Rattle.ps_linkinfo.specs.Numbered.{numbered_records}
 use Rattle.ps_linkinfo.specs.declared.record.LinkRecord.{LinkRecord as Record}
+use Rattle.std.proofs.lemmas.Option.{same_Some}
 use Rattle.ps_resolve.specs.Standing.Phrases.{SomeItem}
-use Rattle.ps_resolve.proofs.Items.{In}
+use Rattle.ps_lists.proofs.Items.{FirstUpTo, In, at_range, in_find, in_front, in_left, in_map, in_right, of_any, of_map, of_range}
 use Rattle.ps_check_segments.specs.Paths.{path_of}
 use Rattle.ps_check_segments.specs.Seen.{Seen, has_slot}
 use Rattle.ps_check_segments.specs.SegmentParts.{is_added, is_unit}
 use Rattle.ps_filetype.specs.Names.{is_respelled}
-use Rattle.ps_warnings.specs.AllFindings.{findings_of_unit}
-use Rattle.ps_warnings.specs.EntryFindings.{empty_finding, overlap, shares}
-use Rattle.ps_warnings.specs.FileFindings.{data_size, definition_findings, extent_at, findings_of_records}
+use Rattle.ps_warnings.specs.Searches.AllFindings.{findings_of_unit}
+use Rattle.ps_warnings.specs.Searches.EntryFindings.{shares}
+use Rattle.ps_warnings.specs.Searches.FileFindings.{definition_findings, extent_at, findings_of_records}
+use Rattle.ps_warnings.specs.SegmentSizes.{data_size}
 use Rattle.ps_warnings.specs.Found.{Stated, found_at, found_in_record, is_about_link}
-use Rattle.ps_warnings.specs.LinkFindings.{is_near_unit, other_spelling, taken_by, taken_slot}
-use Rattle.ps_warnings.specs.RecordFindings.{end_mark, first_above, first_definition, first_past, first_public, is_missed, low_mark}
-use Rattle.ps_warnings.specs.Warned.{IsEndMark, IsHigh, IsNamed, IsOwn, IsPast, IsPastMark, IsRespelled, IsVariable}
-use Rattle.ps_warnings.specs.WarnedFiles.{FileSegment, IsAt, IsLinkedFrom, IsLookedAt, IsMet, IsSaidBy, IsSo, IsUpTo, Says, Share, entry_of}
+use Rattle.ps_warnings.specs.Searches.LinkFindings.{is_near_unit, other_spelling, taken_by}
+use Rattle.ps_warnings.specs.Searches.RecordFindings.{end_mark, first_above, first_definition, first_past, first_public, is_missed, low_mark}
+use Rattle.ps_warnings.specs.Warned.{IsEndMark, IsFoundUpTo, IsHigh, IsOwn, IsPast, IsPastMark, IsRespelled, IsVariable, names_segment}
+use Rattle.ps_warnings.specs.WarnedFiles.{AreSaid, FileSegment, IsAt, IsLinkedFrom, IsLookedAt, IsMet, IsSaidBy, IsSo, IsUpTo, Says, Share, entry_of}
 use Rattle.ps_warnings.specs.declared.finding.EntryFinding.TheVariants as entry
 use Rattle.ps_warnings.specs.declared.finding.Finding.{Finding}
 use Rattle.ps_warnings.specs.declared.finding.Finding.TheVariants as which
@@ -36,58 +35,23 @@ use Rattle.ps_warnings.specs.declared.findings.extents.Extent.{Extent}
 use Rattle.ps_warnings.proofs.Extents.{HasExtent, HasNone, extent_is, extent_with, inside}
 use Rattle.ps_warnings.proofs.FoundAt.{in_found_at, in_in_record, made}
 use Rattle.ps_warnings.proofs.InFiles.{extents_in, in_empty, in_extent, in_segment, in_unit, met, of_all, of_extent}
-use Rattle.ps_warnings.proofs.InLists.{FirstUpTo, at_range, in_find, in_front, in_left, in_map, in_right, of_any, of_map, of_range}
-use Rattle.ps_warnings.proofs.Said.{has_slot_is, has_some, is_met, met_is, missed_met, shares_parts}
+use Rattle.ps_warnings.proofs.Said.{all_so, has_slot_is, has_some, is_met, met_is, missed_met, shares_parts}
 use Rattle.ps_warnings.proofs.Slots.{in_slot, of_host, of_unit as of_definitions}
-use Rattle.ps_warnings.proofs.Warned.{end_mark_there, high_each, high_found, low_each, overlap_each, past_each, past_found, same}
+use Rattle.ps_warnings.proofs.Warned.{end_mark_there, high_each, high_found, low_each, overlap_each, past_each, past_found}
 use Rattle.ps_warnings.proofs.WarnedPublics.{definition_each, definition_found, mark_each, mark_found, missed_own, own_each, own_found}
 use Rattle.ps_warnings.proofs.WarnedSlots.{empty_each, respelled_each, taken_each}
 
 -- 1. what is one, and what is not there
 one_mark : (rs : List Record) (n m : ℕ) → IsEndMark rs n → IsEndMark rs m → n ≡ m
-one_mark rs n m a b = same n m (sym (end_mark_there rs n a) ∙ end_mark_there rs m b)
-
-abbrev is_empty_role : Result Role Reason → Bool
-is_empty_role (Ok role.Empty) = true
-is_empty_role (Ok role.Wanted) = false
-is_empty_role (Ok role.Plain) = false
-is_empty_role (Ok role.Host) = false
-is_empty_role (Ok role.Unit) = false
-is_empty_role (Err why) = false
-
-no_kind_is_empty : (k0 k1 k2 k3 k4 low : Bool) → is_empty_role (if k0 then Ok role.Plain
-    else (if k1 then Ok role.Host
-    else (if k2 then Err reason.SegmentProcedure
-    else (if k3 then Ok role.Unit
-    else (if k4 then Err reason.NativeSegment
-    else (if low then Err reason.Intrinsic else Err reason.UnknownKind)))))) ≡ false
-no_kind_is_empty true k1 k2 k3 k4 low = refl
-no_kind_is_empty false true k2 k3 k4 low = refl
-no_kind_is_empty false false true k3 k4 low = refl
-no_kind_is_empty false false false true k4 low = refl
-no_kind_is_empty false false false false true low = refl
-no_kind_is_empty false false false false false true = refl
-no_kind_is_empty false false false false false false = refl
-
-free_by : (k3 a0 l0 named : Bool) (r : Result Role Reason) → is_empty_role r ≡ false
-    → is_empty_role (if k3 && (a0 || l0) && named then Ok role.Wanted
-    else (if k3 && (a0 || l0) then Ok role.Empty else (if l0 then Ok role.Empty else r))) ≡ true
-    → (not l0 && not (k3 && a0)) ≡ false
-free_by k3 a0 true named r other h = refl
-free_by true true false named r other h = refl
-free_by true false false named r other h = absurd (both_ways (is_empty_role r) other h)
-free_by false a0 false named r other h = absurd (both_ways (is_empty_role r) other h)
+one_mark rs n m a b = same_Some n m (sym (end_mark_there rs n a) ∙ end_mark_there rs m b)
 
 free_slot : (e : Entry) → role_of e ≡ Ok role.Empty → is_filled e ≡ false
-free_slot e h = free_by (e.kind == 3) (e.address == 0) (e.length == 0) (not (is_nameless e.name))
-    (role_of_kind e.kind) (no_kind_is_empty (e.kind == 0) (e.kind == 1) (e.kind == 2) (e.kind == 3)
-    (e.kind == 4) _) (ap (λ (r : Result Role Reason). is_empty_role r) h)
+free_slot e h = grind arith
 
 extent_place : (f : OpenedFile) (slot : ℕ) → slot < SLOTS
     → slice_get (extents_in f) slot ≡ Some (extent_at f.order f.file slot)
-extent_place f slot below = in_map (extent_at f.order f.file) slots slot (0 + slot)
-    (at_range 0 SLOTS slot below)
-    ∙ ap (λ (k : ℕ). Some (extent_at f.order f.file k)) (let e : 0 + slot ≡ slot = omega arith in e)
+extent_place f slot below = rw zero-add at
+    (in_map (extent_at f.order f.file) slots slot (0 + slot) (at_range 0 SLOTS slot below))
 
 module _ (paths : List (List ℕ)) (host : List ℕ) (libs : List (List ℕ)) (list : List Seen)
     (thing : Stated) where
@@ -157,9 +121,7 @@ module _ (paths : List (List ℕ)) (host : List ℕ) (libs : List (List ℕ)) (l
     highs = found_in_record path segment (first_above g.records)
 
     in_host : (s : Stated) → (entry_of g).kind ≡ 1 → In s (lows ++ highs) → In s All
-    in_host s k t = in_definitions s (subst (λ (l : List Stated). In s l)
-        (sym (of_host path segment host_of (entry_of g).kind (data_size g.file.order g.code)
-        g.records (eq-eqb (entry_of g).kind 1 k))) t)
+    in_host s k t = let is = eq-eqb (entry_of g).kind 1 k in in_definitions s (rw of_host t)
 
     abbrev defined : Bool → List Stated
     defined b = found_in_record path segment
@@ -167,20 +129,24 @@ module _ (paths : List (List ℕ)) (host : List ℕ) (libs : List (List ℕ)) (l
 
     in_unit_of : (s : Stated) → (entry_of g).kind ≡ 3 → In s (defined true ++ defined false)
         → In s All
-    in_unit_of s k t = in_definitions s (subst (λ (l : List Stated). In s l)
-        (sym (of_definitions path segment host_of (entry_of g).kind
-        (data_size g.file.order g.code) g.records (ap (λ (n : ℕ). n == 1) k))) t)
+    in_unit_of s k t = let is : ((entry_of g).kind == 1) ≡ false = rw k in
+        in_definitions s (rw of_definitions t)
+
+    -- by what is found in a record, which is this one or one before it
+    by_record : (q : Finding) (o : Option (ℕ × Finding)) (i : ℕ) → thing.finding ≡ q
+        → IsAt thing path segment (Some i)
+        → ((s : Stated) → In s (found_in_record path segment o) → In s All)
+        → (up : IsFoundUpTo o i) → is_about_link up.1 ≡ true → Says q up.1 → Said
+    by_record q o i e at into up about says = let there = made path segment (Some up.0) up.1 in
+        said_at q e path segment (Some i) (Some up.0) up.1 at up.3 says
+        (into there (in_in_record path segment o up.0 up.1 up.2 about))
 
     each_past : (place d w i : ℕ)
         → thing.finding ≡ which.Record (finding.PastPrivate place d w)
         → IsAt thing path segment (Some i) → IsPast g.code g.records i place d w → Said
     each_past place d w i e at h = let up = past_each g.code g.records i place d w h in
         let r = past_found g.code g.records up.0 up.1 up.2 in
-        said_at (which.Record (finding.PastPrivate place d w)) e path segment (Some i)
-        (Some up.0) up.1 at up.3 (r.0, r.1, r.2, r.3)
-        (in_pasts (made path segment (Some up.0) up.1) (in_in_record path segment
-        (first_past g.code (numbered_records 0 g.records)) up.0 up.1 up.2
-        (ap (λ (z : Finding). is_about_link z) r.3)))
+        by_record _ _ i e at in_pasts up (rw r.3) (r.0, r.1, r.2, r.3)
 
     each_public : (place : ℕ) (name : List ℕ) (d v n i : ℕ) (hs : List Record)
         → thing.finding ≡ which.Record (finding.PastPublic place name d v n)
@@ -189,35 +155,16 @@ module _ (paths : List (List ℕ)) (host : List ℕ) (libs : List (List ℕ)) (l
     each_public place name d v n i hs e at m h =
         let up = mark_each g.code hs g.records i place name d v n h in
         let r = mark_found g.code hs g.records up.0 up.1 up.2 in
-        said_at (which.Record (finding.PastPublic place name d v n)) e path segment (Some i)
-        (Some up.0) up.1 at up.3 (
-          r.0,
-          r.1,
-          r.2,
-          r.3,
-          r.5 ∙ ap (λ (x : ℕ).
-              which.Record (finding.PastPublic r.0 r.1 r.2 r.3 x)) (one_mark hs r.4 n r.6.9 h.9),
-        )
-        (in_publics (made path segment (Some up.0) up.1) (in_in_record path segment
-        (first_public g.code host_of (numbered_records 0 g.records)) up.0 up.1
-        (ap (λ (o : Option (List Record)). first_public g.code o (numbered_records 0 g.records))
-        (met_is list g hs m) ∙ up.2)
-        (ap (λ (z : Finding). is_about_link z) r.5)))
+        by_record _ _ i e at (λ s t. in_publics s (rw (met_is list g hs m) t)) up (rw r.5)
+        (r.0, r.1, r.2, r.3, rw (one_mark hs r.4 n r.6.9 h.9) at r.5)
 
     each_low : (next size : ℕ) → thing.finding ≡ which.Record (finding.LowMark next size)
         → IsAt thing path segment None → (entry_of g).kind ≡ 1
         → data_size g.file.order g.code ≡ Some size → IsEndMark g.records next
         → 2 * next < size → Said
-    each_low next size e at k sized m lt =
-        said_at (which.Record (finding.LowMark next size)) e path segment None None
-        (which.Record (finding.LowMark next size)) at tt refl
-        (in_host (made path segment None (which.Record (finding.LowMark next size))) k
-        (in_left lows highs (made path segment None (which.Record (finding.LowMark next size)))
-        (in_found_at path segment None
-        (low_mark (end_mark g.records) (data_size g.file.order g.code))
-        (which.Record (finding.LowMark next size))
-        (ap (λ (o : Option ℕ). low_mark (end_mark g.records) o) sized
-        ∙ low_each g.records size next m lt) refl)))
+    each_low next size e at k sized m lt = said_at _ e _ _ _ _ _ at tt refl (in_host _ k
+        (in_left lows highs _ (in_found_at path segment None _ (which.Record (finding.LowMark next size))
+        (rw sized (low_each g.records size next m lt)) refl)))
 
     each_high : (name : List ℕ) (value next i : ℕ)
         → thing.finding ≡ which.Record (finding.HighDefinition name value next)
@@ -226,17 +173,8 @@ module _ (paths : List (List ℕ)) (host : List ℕ) (libs : List (List ℕ)) (l
     each_high name value next i e at k m h =
         let up = high_each g.records i name value next m h in
         let r = high_found g.records up.0 up.1 up.2 in
-        said_at (which.Record (finding.HighDefinition name value next)) e path segment (Some i)
-        (Some up.0) up.1 at up.3 (
-          r.2,
-          r.1,
-          r.3 ∙ ap (λ (x : ℕ).
-              which.Record (finding.HighDefinition r.2 r.1 x)) (one_mark g.records r.0 next r.4 m),
-        )
-        (in_host (made path segment (Some up.0) up.1) k
-        (in_right lows highs (made path segment (Some up.0) up.1)
-        (in_in_record path segment (first_above g.records) up.0 up.1 up.2
-        (ap (λ (z : Finding). is_about_link z) r.3))))
+        by_record _ _ i e at (λ s t. in_host s k (in_right lows highs s t)) up (rw r.3)
+        (r.2, r.1, rw (one_mark g.records r.0 next r.4 m) at r.3)
 
     each_own : (name : List ℕ) (i : ℕ) (hs : List Record)
         → thing.finding ≡ which.Record (finding.OwnDefinition name)
@@ -244,23 +182,8 @@ module _ (paths : List (List ℕ)) (host : List ℕ) (libs : List (List ℕ)) (l
         → IsOwn hs g.records i name → Said
     each_own name i hs e at k m h = let up = own_each hs g.records i name h in
         let r = own_found hs g.records up.0 up.1 up.2 in
-        said_at (which.Record (finding.OwnDefinition name)) e path segment (Some i)
-        (Some up.0) up.1 at up.3 (r.0, r.1)
-        (in_unit_of (made path segment (Some up.0) up.1) k
-        (in_left (defined true) (defined false) (made path segment (Some up.0) up.1)
-        (in_in_record path segment
-        (first_definition true g.records host_of (numbered_records 0 g.records)) up.0 up.1
-        (ap (λ (o : Option (List Record)). first_definition true g.records o
-        (numbered_records 0 g.records)) (met_is list g hs m) ∙ up.2)
-        (ap (λ (z : Finding). is_about_link z) r.1))))
-
-    not_missed : (name : List ℕ) (i : ℕ) (t : Bool) → is_missed g.records host_of name ≡ t
-        → IsVariable g.records i name
-        → ((hs : List Record) → IsMet list g hs → IsOwn hs g.records i name → ⊥)
-        → t ≡ false
-    not_missed name i true e v never = let z = missed_met g.records host_of name e in
-        absurd (never z.0 (is_met list g z.0 z.1) (missed_own z.0 g.records i name v z.2))
-    not_missed name i false e v never = refl
+        by_record _ _ i e at (λ s t. in_unit_of s k (in_left (defined true) (defined false) s
+        (rw (met_is list g hs m) t))) up (rw r.1) (r.0, r.1)
 
     each_other : (name : List ℕ) (i : ℕ)
         → thing.finding ≡ which.Record (finding.UnitDefinition name)
@@ -268,15 +191,12 @@ module _ (paths : List (List ℕ)) (host : List ℕ) (libs : List (List ℕ)) (l
         → IsVariable g.records i name
         → ((hs : List Record) → IsMet list g hs → IsOwn hs g.records i name → ⊥) → Said
     each_other name i e at k v never = let up = definition_each false g.records host_of i name v
-        (not_missed name i (is_missed g.records host_of name) refl v never) in
+        (false_from_ne_true (is_missed g.records host_of name) (λ b.
+        let z = missed_met g.records host_of name b in
+        never z.0 (is_met list g z.0 z.1) (missed_own z.0 g.records i name v z.2))) in
         let r = definition_found false g.records host_of up.0 up.1 up.2 in
-        said_at (which.Record (finding.UnitDefinition name)) e path segment (Some i)
-        (Some up.0) up.1 at up.3 (r.0, r.1)
-        (in_unit_of (made path segment (Some up.0) up.1) k
-        (in_right (defined true) (defined false) (made path segment (Some up.0) up.1)
-        (in_in_record path segment
-        (first_definition false g.records host_of (numbered_records 0 g.records)) up.0 up.1
-        up.2 (ap (λ (z : Finding). is_about_link z) r.1))))
+        by_record _ _ i e at (λ s t. in_unit_of s k (in_right (defined true) (defined false) s t))
+        up (rw r.1) (r.0, r.1)
 
   -- 3. of an entry
   module _ (number : ℕ) (f : OpenedFile) (looked : IsLookedAt host libs number f) (slot : ℕ)
@@ -287,26 +207,19 @@ module _ (paths : List (List ℕ)) (host : List ℕ) (libs : List (List ℕ)) (l
     abbrev x : Extent
     x = extent_at f.order f.file slot
 
-    not_taken : (t : Bool) → list_any (has_slot slot) list ≡ t
-        → (SomeItem list (λ k s. s.slot ≡ Some slot) → ⊥) → t ≡ false
-    not_taken true is never = let a = of_any (has_slot slot) list is in
-        absurd (never (a.0, a.1, a.2, has_slot_is slot a.1 a.3))
-    not_taken false is never = refl
-
     each_empty : (q : Finding) → thing.finding ≡ q → number ≡ 0
         → IsAt thing (path_of paths number) None None → role_of e ≡ Ok role.Empty
-        → IsNamed e → (SomeItem list (λ k s. s.slot ≡ Some slot) → ⊥)
+        → names_segment e ≡ true → (SomeItem list (λ k s. s.slot ≡ Some slot) → ⊥)
         → Says q (which.Entry (entry.EmptySlot slot e.name e.kind)) → Said
     each_empty q is first at empty named never says =
         let taken = list_any (has_slot slot) list in
         let found = which.Entry (entry.EmptySlot slot e.name e.kind) in
-        said_at q is (path_of paths number) None None None found at tt says
-        (in_empty paths host libs list (made (path_of paths number) None None found) number f
-        slot first looked below (free_slot e empty)
-        (in_found_at (path_of paths number) None None
-        (empty_finding slot taken e (role_of e)) found
-        (ap (λ (r : Result Role Reason). empty_finding slot taken e r) empty
-        ∙ empty_each slot taken e (not_taken taken refl never) named) refl))
+        let free = false_from_ne_true taken (λ b. let a = of_any (has_slot slot) list b in
+        never (a.0, a.1, a.2, has_slot_is slot a.1 a.3)) in
+        said_at q is _ _ _ _ found at tt says
+        (in_empty paths host libs list _ number f slot first looked below (free_slot e empty)
+        (in_found_at (path_of paths number) None None _ found
+        (rw empty (empty_each slot taken e free named)) refl))
 
     overlap_first : (other : ℕ) (own : x.slot ≡ slot) → thing.finding
         ≡ which.Entry (entry.Overlap other)
@@ -321,19 +234,13 @@ module _ (paths : List (List ℕ)) (host : List ℕ) (libs : List (List ℕ)) (l
         (subst (λ (y : Extent). HasNone f from.0 y ⊎ HasExtent f from.0 y) from.2
         (extent_is f from.0)) in
         let its = ho.2 in let place = ranged.2 in
-        said_at (which.Entry (entry.Overlap other)) is path (Some e.name) None None q at tt
+        let low = lt-ltb x.slot SLOTS (omega (arith, own, below)) in
+        said_at _ is path (Some e.name) None None q at tt
         (o.slot, refl, omega (arith, its, place, le))
-        (in_extent paths host libs list (made path (Some e.name) None q) number f slot looked
-        below (subst (λ (n : ℕ). In (made path (Some (entry_at f.order f.file n).name) None q)
-        (of_extent paths host libs list number f x)) own
-        (subst (λ (l : List Stated). In (made path
-        (Some (entry_at f.order f.file x.slot).name) None q) l)
-        (sym (in_slot path f.order f.file (extents_in f) x
-        (lt-ltb x.slot SLOTS (omega (arith, own, below)))))
-        (in_found_at path (Some (entry_at f.order f.file x.slot).name) None
-        (overlap (extents_in f) x) q
-        (ap (λ (m : Option Extent). option_map
-        (λ (y : Extent). which.Entry (entry.Overlap y.slot)) m) found) refl))))
+        (in_extent paths host libs list (made path (Some e.name) None q) number f slot looked below
+        (subst (λ (n : ℕ). In (made path (Some (entry_at f.order f.file n).name) None q)
+        (of_extent paths host libs list number f x)) own (rw in_slot (in_found_at path
+        (Some (entry_at f.order f.file x.slot).name) None _ q (rw found) refl))))
 
     each_overlap : (other : ℕ) → thing.finding ≡ which.Entry (entry.Overlap other)
         → IsAt thing (path_of paths number) (Some e.name) None → other < slot
@@ -374,18 +281,15 @@ module _ (paths : List (List ℕ)) (host : List ℕ) (libs : List (List ℕ)) (l
 
     each_taken : (q : Finding) (slot : ℕ) → thing.finding ≡ q
         → IsAt thing unit_path (Some t.name) None → t.slot ≡ Some slot → slot < SLOTS
-        → is_added t.part ≡ true → IsNamed (entry_at h.order h.file slot)
+        → is_added t.part ≡ true → names_segment (entry_at h.order h.file slot) ≡ true
         → Says q (which.Link (link.TakenSlot slot (entry_at h.order h.file slot).name))
         → Said
     each_taken q slot is at has below added named says =
         let e = entry_at h.order h.file slot in
         let found = which.Link (link.TakenSlot slot e.name) in
-        said_at q is unit_path (Some t.name) None None found at tt says
-        (in_takens (made unit_path (Some t.name) None found)
-        (in_found_at unit_path (Some t.name) None (taken_by h.order h.file t.slot t.part) found
-        (ap (λ (o : Option ℕ). taken_by h.order h.file o t.part) has
-        ∙ (ap (λ (b : Bool). if b then taken_slot slot t.part e else None)
-        (lt-ltb slot SLOTS below) ∙ taken_each slot t.part e added named)) refl))
+        said_at q is _ _ _ _ found at tt says (in_takens _
+        (in_found_at unit_path (Some t.name) None _ found
+        (rw (has, lt-ltb slot SLOTS below) (taken_each slot t.part e added named)) refl))
 
     spelled_first : (name : List ℕ) (j : ℕ) → is_unit t.part ≡ true
         → thing.finding ≡ which.Link (link.OtherSpelling name)
@@ -393,15 +297,8 @@ module _ (paths : List (List ℕ)) (host : List ℕ) (libs : List (List ℕ)) (l
         → FirstUpTo (is_near_unit t.name) (take k list) j → Said
     spelled_first name j unit is at (i, o, found, place, near, le) =
         let q = which.Link (link.OtherSpelling o.name) in
-        said_at (which.Link (link.OtherSpelling name)) is unit_path (Some t.name) None None q
-        at tt (o.name, refl)
-        (in_spelled (made unit_path (Some t.name) None q)
-        (in_found_at unit_path (Some t.name) None (other_spelling (take k list) t) q
-        (ap (λ (b : Bool). if b then option_map
-        (λ (y : Seen). which.Link (link.OtherSpelling y.name))
-        (find (is_near_unit t.name) (take k list)) else None) unit
-        ∙ ap (λ (m : Option Seen). option_map
-        (λ (y : Seen). which.Link (link.OtherSpelling y.name)) m) found) refl))
+        said_at _ is _ _ _ _ q at tt (o.name, refl)
+        (in_spelled _ (in_found_at unit_path (Some t.name) None _ q (rw (unit, found)) refl))
 
     each_spelled : (name : List ℕ) (j : ℕ) (o : Seen) → is_unit t.part ≡ true
         → thing.finding ≡ which.Link (link.OtherSpelling name)
@@ -434,24 +331,22 @@ module _ (paths : List (List ℕ)) (host : List ℕ) (libs : List (List ℕ)) (l
       (number, f, slot, looked, below, at, (first, place, free, named, its, kinds, never)) =
       each_empty number f looked slot below
       (which.Entry (entry.EmptySlot empty name kind)) e first at free named never
-      (ap (λ (z : ℕ). which.Entry (entry.EmptySlot z (entry_at f.order f.file slot).name
-      (entry_at f.order f.file slot).kind)) place
-      ∙ (ap (λ (z : List ℕ). which.Entry (entry.EmptySlot empty z
-      (entry_at f.order f.file slot).kind)) its
-      ∙ ap (λ (z : ℕ). which.Entry (entry.EmptySlot empty name z)) kinds))
+      (rw (its, kinds, place))
   each_by (which.Link (link.TakenSlot slot name)) e
       (h, opens, (k, t, there, (at, (has, below, added, named, its)))) =
       each_taken h opens k t there (which.Link (link.TakenSlot slot name)) slot e at has below
-      added named (ap (λ (z : List ℕ). which.Link (link.TakenSlot slot z)) its)
+      added named (rw its)
   each_by (which.Link (link.OtherSpelling name)) e
       (h, opens, (k, t, there, (at, (unit, (j, o, place, (before, ounit, its, near)))))) =
       each_spelled h opens k t there name j o unit e at place before ounit near
-  each_by (which.File z) e h = elim h [ ]
-  each_by (which.Dictionary z) e h = elim h [ ]
-  each_by (which.Name z) e h = elim h [ ]
-  each_by (which.Code z) e h = elim h [ ]
-  each_by (which.Procedure z) e h = elim h [ ]
-  each_by (which.Operand z) e h = elim h [ ]
+  each_by other e h = absurd h
 
   pub all_said : IsSo paths host libs list thing thing.finding → Said
   all_said h = each_by thing.finding refl h
+
+pub are_said : (paths : List (List ℕ)) (host : List ℕ) (libs : List (List ℕ)) (list : List Seen)
+    → AreSaid paths host libs list (of_all paths host libs list)
+are_said paths host libs list = record {
+  sound = all_so paths host libs list;
+  each = λ thing h. all_said paths host libs list thing h;
+}

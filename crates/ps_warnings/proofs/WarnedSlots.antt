@@ -1,77 +1,53 @@
 -- What the definitions of the warnings compute of slots and of names is what the pages say.
 use Rattle.std.proofs.Common.{◌≡◌, ◌∙◌, ◌+◌, ◌<◌, ◌≤◌, ℕ, zero, suc, Bool, true, false, List, Some, ap, sym, refl, inl, inr, arith, drop}
-use Rattle.std.specs.Prelude.{◌≢◌, ◌⊎◌, ◌&&◌, ◌||◌, ◌==◌, not, slice_index, bytes_eq}
+use Rattle.std.specs.Prelude.{◌≢◌, ◌⊎◌, ◌&&◌, ◌==◌, not, slice_index, bytes_eq}
 use Rattle.std.specs.Char.{to_ascii_uppercase}
 use Rattle.std.specs.List.{list_all, range_with_len}
-use Rattle.std.proofs.lemmas.Bool.{and_from, and_parts, both_ways, cases_lt, eq-eqb, eqb-false, eqb-true, ne_eqb, not-true, not_from_false, or_cases, or_from, or_left, or_parts, or_right}
+use Rattle.std.proofs.lemmas.Bool.{and_from, and_parts, both_ways, cases_lt, eq-eqb, eqb-true, not-true, not_from_false, or_cases, or_left, or_right}
+use Rattle.std.proofs.lemmas.Option.{cond_some}
 use Rattle.std.proofs.lemmas.Slice.Eq.{bytes_eq-Decides}
-use Rattle.ps_codefile.specs.Dictionary.{is_nameless}
 use Rattle.ps_codefile.specs.declared.entry.Entry.{Entry}
 use Rattle.ps_filetype.specs.Names.{is_alike_at, is_padding, is_respelled}
 use Rattle.ps_check_segments.specs.SegmentParts.{is_added}
 use Rattle.ps_check_segments.specs.declared.segments.SegmentPart.{SegmentPart}
-use Rattle.ps_warnings.specs.EntryFindings.{empty_slot, is_left_empty, names_segment}
-use Rattle.ps_warnings.specs.LinkFindings.{taken_slot}
-use Rattle.ps_warnings.specs.Warned.{IsNamed, IsRespelled}
+use Rattle.ps_warnings.specs.Searches.EntryFindings.{empty_slot}
+use Rattle.ps_warnings.specs.Searches.LinkFindings.{taken_slot}
+use Rattle.ps_warnings.specs.Warned.{IsRespelled, names_segment}
 use Rattle.ps_warnings.specs.declared.finding.EntryFinding.TheVariants as entry
 use Rattle.ps_warnings.specs.declared.finding.Finding.{Finding}
 use Rattle.ps_warnings.specs.declared.finding.Finding.TheVariants as which
 use Rattle.ps_warnings.specs.declared.finding.LinkFinding.TheVariants as link
-use Rattle.ps_warnings.proofs.Warned.{if_found, if_is}
+use Rattle.ps_lists.proofs.Items.{if_is}
 
 -- 1. an entry that names a segment
-left_empty : (k : ℕ) → is_left_empty k ≡ false → (k ≢ 0) × (k ≢ 2) × (k ≢ 3) × (k ≢ 4)
-left_empty k h =
-    let a = or_parts (k == 0 || k == 2 || k == 3) (k == 4) h in
-    let b = or_parts (k == 0 || k == 2) (k == 3) a.0 in
-    let c = or_parts (k == 0) (k == 2) b.0 in
-    (eqb-false k 0 c.0, eqb-false k 2 c.1, eqb-false k 3 b.1, eqb-false k 4 a.1)
-
-empty_left : (k : ℕ) → k ≢ 0 → k ≢ 2 → k ≢ 3 → k ≢ 4 → is_left_empty k ≡ false
-empty_left k a b c d = or_from (k == 0 || k == 2 || k == 3) (k == 4)
-    (or_from (k == 0 || k == 2) (k == 3) (or_from (k == 0) (k == 2) (ne_eqb k 0 a) (ne_eqb k 2 b))
-    (ne_eqb k 3 c)) (ne_eqb k 4 d)
-
-named : (e : Entry) → names_segment e ≡ true → IsNamed e
-named e h = elim (or_cases (not (is_nameless e.name)) (not (is_left_empty e.kind)) h) [
-  | inl a ↦ inl (not-true (is_nameless e.name) a)
-  | inr b ↦ inr (left_empty e.kind (not-true (is_left_empty e.kind) b))
-]
-
-names : (e : Entry) → IsNamed e → names_segment e ≡ true
-names e (inl a) = or_left (not (is_nameless e.name)) (not (is_left_empty e.kind))
-    (not_from_false (is_nameless e.name) a)
-names e (inr (a, b, c, d)) = or_right (not (is_nameless e.name)) (not (is_left_empty e.kind))
-    (not_from_false (is_left_empty e.kind) (empty_left e.kind a b c d))
-
 pub empty_found : (slot : ℕ) (taken : Bool) (e : Entry) (f : Finding)
     → empty_slot slot taken e ≡ Some f
-    → (f ≡ which.Entry (entry.EmptySlot slot e.name e.kind)) × (taken ≡ false) × IsNamed e
+    → (f ≡ which.Entry (entry.EmptySlot slot e.name e.kind)) × (taken ≡ false) × (names_segment e ≡ true)
 empty_found slot taken e f h =
-    let t = if_found (not taken && names_segment e)
+    let t = cond_some (not taken && names_segment e)
     (which.Entry (entry.EmptySlot slot e.name e.kind)) f h in
     let both = and_parts (not taken) (names_segment e) t.0 in
-    (sym t.1, not-true taken both.0, named e both.1)
+    (sym t.1, not-true taken both.0, both.1)
 
-pub empty_each : (slot : ℕ) (taken : Bool) (e : Entry) → taken ≡ false → IsNamed e
+pub empty_each : (slot : ℕ) (taken : Bool) (e : Entry) → taken ≡ false → names_segment e ≡ true
     → empty_slot slot taken e ≡ Some (which.Entry (entry.EmptySlot slot e.name e.kind))
 empty_each slot taken e free n = if_is (not taken && names_segment e)
     (which.Entry (entry.EmptySlot slot e.name e.kind))
-    (and_from (not taken) (names_segment e) (not_from_false taken free) (names e n))
+    (and_from (not taken) (names_segment e) (not_from_false taken free) n)
 
 pub taken_found : (slot : ℕ) (what : SegmentPart) (e : Entry) (f : Finding)
     → taken_slot slot what e ≡ Some f
-    → (f ≡ which.Link (link.TakenSlot slot e.name)) × (is_added what ≡ true) × IsNamed e
+    → (f ≡ which.Link (link.TakenSlot slot e.name)) × (is_added what ≡ true) × (names_segment e ≡ true)
 taken_found slot what e f h =
-    let t = if_found (is_added what && names_segment e) (which.Link (link.TakenSlot slot e.name)) f h in
+    let t = cond_some (is_added what && names_segment e) (which.Link (link.TakenSlot slot e.name)) f h in
     let both = and_parts (is_added what) (names_segment e) t.0 in
-    (sym t.1, both.0, named e both.1)
+    (sym t.1, both.0, both.1)
 
-pub taken_each : (slot : ℕ) (what : SegmentPart) (e : Entry) → is_added what ≡ true → IsNamed e
+pub taken_each : (slot : ℕ) (what : SegmentPart) (e : Entry) → is_added what ≡ true → names_segment e ≡ true
     → taken_slot slot what e ≡ Some (which.Link (link.TakenSlot slot e.name))
 taken_each slot what e added n = if_is (is_added what && names_segment e)
     (which.Link (link.TakenSlot slot e.name))
-    (and_from (is_added what) (names_segment e) added (names e n))
+    (and_from (is_added what) (names_segment e) added n)
 
 -- 2. names that differ in capitals or padding
 all_of : (p : ℕ → Bool) (a n : ℕ) → list_all p (range_with_len a n) ≡ true

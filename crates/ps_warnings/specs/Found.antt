@@ -24,12 +24,7 @@ abbrev pub is_about_link : Finding → Bool
 is_about_link (which.Entry f) = true
 is_about_link (which.Record f) = true
 is_about_link (which.Link f) = true
-is_about_link (which.File f) = false
-is_about_link (which.Dictionary f) = false
-is_about_link (which.Name f) = false
-is_about_link (which.Code f) = false
-is_about_link (which.Procedure f) = false
-is_about_link (which.Operand f) = false
+is_about_link other = false
 
 -- the findings about the link among these, in their order
 unfoldable pub about_link_in : List FindingAt → List Stated

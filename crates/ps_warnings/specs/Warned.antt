@@ -1,6 +1,6 @@
 -- What a check warns of, in the words of the pages: of records and of bytes of a file, and not by the
 -- steps of a search.
-use Rattle.std.specs.Prelude.{◌≡◌, ◌≢◌, ◌⊎◌, ℕ, ◌+◌, ◌<◌, ◌≤◌, true, false, List, [], ◌∷◌, drop, length, slice_get, slice_index, Option, Some}
+use Rattle.std.specs.Prelude.{◌≡◌, ◌≢◌, ◌⊎◌, ◌==◌, ◌||◌, not, ℕ, ◌+◌, ◌<◌, ◌≤◌, Bool, true, false, List, [], ◌∷◌, drop, length, slice_get, slice_index, Option, Some}
 use Rattle.std.specs.Char.{to_ascii_uppercase}
 use Rattle.std.specs.List.{list_all}
 use Rattle.ps_words.specs.Words.{displacement_at}
@@ -81,10 +81,13 @@ IsOwn host rs i name = (r : Record) × (value : ℕ) × (next : ℕ) × (slice_g
 abbrev pub ShareByte : Extent → Extent → Type 0
 ShareByte e o = (p : ℕ) × (o.start ≤ p) × (p < o.end) × (e.start ≤ p) × (p < e.end)
 
--- an entry has a name, or a kind that a compiler does not leave in an empty slot
-abbrev pub IsNamed : Entry → Type 0
-IsNamed e = (is_nameless e.name ≡ false)
-    ⊎ ((e.kind ≢ 0) × (e.kind ≢ 2) × (e.kind ≢ 3) × (e.kind ≢ 4))
+-- kinds that a compiler leaves in empty slots that have no name
+abbrev pub is_left_empty : ℕ → Bool
+is_left_empty kind = kind == 0 || kind == 2 || kind == 3 || kind == 4
+
+-- the entry has a name, or a kind that no entry without a name has
+abbrev pub names_segment : Entry → Bool
+names_segment e = not (is_nameless e.name) || not (is_left_empty e.kind)
 
 -- two names of eight bytes differ in capitals A to Z or in padding alone: at each place they have one
 -- letter, a capital or a small one, or both have padding from there on

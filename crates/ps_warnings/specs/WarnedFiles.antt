@@ -1,6 +1,6 @@
 -- What a check warns of in whole files, in the words of the pages: where the things are that `Warned`
--- describes, and which findings say so.
-use Rattle.std.specs.Prelude.{◌≡◌, ◌⊎◌, ℕ, ◌+◌, ◌*◌, ◌<◌, ◌≤◌, ⊤, true, List, ◌∷◌, slice_get, unwrap_or, Option, Some, None, Ok}
+-- describes, which findings say so, and in what order.
+use Rattle.std.specs.Prelude.{◌≡◌, ◌⊎◌, ℕ, ◌+◌, ◌*◌, ◌<◌, ◌≤◌, ⊤, true, List, [], ◌∷◌, length, slice_get, unwrap_or, Option, Some, None, Ok}
 use Rattle.ps_words.specs.Words.{blocks}
 use Rattle.ps_codefile.specs.Dictionary.{OpenedFile, code_of, entry_at, information_of, is_filled, kind_needs_linking, opened_alone, opened_beside, role_of}
 use Rattle.ps_codefile.specs.declared.dictionary_layout.TheConstants.{SLOTS}
@@ -13,9 +13,9 @@ use Rattle.ps_resolve.specs.Standing.Phrases.{SomeItem}
 use Rattle.ps_check_segments.specs.Paths.{host_order, path_of}
 use Rattle.ps_check_segments.specs.Seen.{Seen, host_records}
 use Rattle.ps_check_segments.specs.SegmentParts.{is_added, is_unit}
-use Rattle.ps_warnings.specs.FileFindings.{data_size, information_end}
+use Rattle.ps_warnings.specs.SegmentSizes.{data_size, information_end}
 use Rattle.ps_warnings.specs.Found.{Stated}
-use Rattle.ps_warnings.specs.Warned.{IsEndMark, IsHigh, IsNamed, IsOwn, IsPast, IsPastMark, IsRespelled, IsVariable}
+use Rattle.ps_warnings.specs.Warned.{IsEndMark, IsHigh, IsOwn, IsPast, IsPastMark, IsRespelled, IsVariable, names_segment}
 use Rattle.ps_warnings.specs.declared.finding.EntryFinding.TheVariants as entry
 use Rattle.ps_warnings.specs.declared.finding.Finding.{Finding}
 use Rattle.ps_warnings.specs.declared.finding.Finding.TheVariants as which
@@ -79,6 +79,16 @@ HasByte f slot p = let e = entry_at f.order f.file slot in
 abbrev pub Share : OpenedFile → ℕ → ℕ → Type 0
 Share f slot other = (p : ℕ) × HasByte f slot p × HasByte f other p
 
+-- each kind has its turn among the findings of one place
+abbrev pub turn : Finding → ℕ
+turn (which.Record (finding.PastPublic place name displacement value next)) = 1
+turn (which.Record (finding.LowMark next size)) = 2
+turn (which.Record (finding.HighDefinition name value next)) = 3
+turn (which.Record (finding.OwnDefinition name)) = 4
+turn (which.Record (finding.UnitDefinition name)) = 5
+turn (which.Link (link.OtherSpelling name)) = 1
+turn other = 0
+
 module _ (paths : List (List ℕ)) (host : List ℕ) (libs : List (List ℕ)) (list : List Seen) where
   -- this holds of a record of a segment of a host program or a unit, and the finding is there
   abbrev pub InRecord : Stated → (FileSegment → ℕ → Type 0) → Type 0
@@ -126,22 +136,42 @@ module _ (paths : List (List ℕ)) (host : List ℕ) (libs : List (List ℕ)) (l
       (λ number f slot. (other < slot) × Share f slot other)
   IsSo s (which.Entry (entry.EmptySlot empty name kind)) = InSlot s (λ f slot. None)
       (λ number f slot. let e = entry_at f.order f.file slot in
-      (number ≡ 0) × (slot ≡ empty) × (role_of e ≡ Ok role.Empty) × IsNamed e
+      (number ≡ 0) × (slot ≡ empty) × (role_of e ≡ Ok role.Empty) × (names_segment e ≡ true)
       × (e.name ≡ name) × (e.kind ≡ kind) × (SomeItem list (λ k t. t.slot ≡ Some slot) → ⊥))
   IsSo s (which.Link (link.TakenSlot slot name)) = InLink s (λ h k t.
       (t.slot ≡ Some slot) × (slot < SLOTS) × (is_added t.part ≡ true)
-      × IsNamed (entry_at h.order h.file slot) × ((entry_at h.order h.file slot).name ≡ name))
+      × (names_segment (entry_at h.order h.file slot) ≡ true)
+      × ((entry_at h.order h.file slot).name ≡ name))
   IsSo s (which.Link (link.OtherSpelling name)) = InLink s (λ h k t. (is_unit t.part ≡ true)
       × SomeItem list (λ j o. (j < k) × (is_unit o.part ≡ true) × (o.name ≡ name)
       × IsRespelled o.name t.name))
-  IsSo s (which.File f) = ⊥
-  IsSo s (which.Dictionary f) = ⊥
-  IsSo s (which.Name f) = ⊥
-  IsSo s (which.Code f) = ⊥
-  IsSo s (which.Procedure f) = ⊥
-  IsSo s (which.Operand f) = ⊥
+  IsSo s other = ⊥
 
--- 3. what says that this is so
+  -- 3. in what order it is said: the place of a finding. Each file has 32 places, the host first: one
+  -- for each slot, and then one for each of which the bytes overlap. After the files each segment of
+  -- the link has one.
+  abbrev pub IsPlaced : ℕ → Stated → Finding → Type 0
+  IsPlaced place s (which.Record (finding.LowMark next size)) = InSegment s
+      (λ g. place ≡ 32 * g.number + g.slot)
+  IsPlaced place s (which.Record f) = InRecord s (λ g i. place ≡ 32 * g.number + g.slot)
+  IsPlaced place s (which.Entry (entry.Overlap other)) = InSlot s
+      (λ f slot. Some (entry_at f.order f.file slot).name)
+      (λ number f slot. place ≡ 32 * number + 16 + slot)
+  IsPlaced place s (which.Entry f) = InSlot s (λ f slot. None)
+      (λ number f slot. place ≡ 32 * number + slot)
+  IsPlaced place s (which.Link f) = InLink s (λ h k t. place ≡ 32 * length (host ∷ libs) + k)
+  IsPlaced place s other = ⊥
+
+  -- a finding is this one by its place, and by its kind among those of one place
+  abbrev pub IsNumber : ℕ → Stated → Type 0
+  IsNumber n s = (place : ℕ) × IsPlaced place s s.finding × (n ≡ 10 * place + turn s.finding)
+
+  -- the numbers of these findings ascend from this one on
+  abbrev pub AscendFrom : ℕ → List Stated → Type 0
+  AscendFrom n [] = ⊤
+  AscendFrom n (s ∷ more) = (m : ℕ) × (n ≤ m) × IsNumber m s × AscendFrom (m + 1) more
+
+-- 4. what says that this is so
 -- Of an end mark, of an empty slot and of a slot that is taken, the same finding. Of the others, one of
 -- the same kind: of an operand and of a definition about the first record of the segment, of entries
 -- that share a byte about the first earlier one.
@@ -164,12 +194,7 @@ Says (which.Entry (entry.EmptySlot slot name kind)) f = f
 Says (which.Link (link.TakenSlot slot name)) f = f ≡ which.Link (link.TakenSlot slot name)
 Says (which.Link (link.OtherSpelling name)) f = (n : List ℕ)
     × (f ≡ which.Link (link.OtherSpelling n))
-Says (which.File g) f = ⊥
-Says (which.Dictionary g) f = ⊥
-Says (which.Name g) f = ⊥
-Says (which.Code g) f = ⊥
-Says (which.Procedure g) f = ⊥
-Says (which.Operand g) f = ⊥
+Says other f = ⊥
 
 -- a record is this one or one before it; or there is none
 abbrev pub IsUpTo : Option ℕ → Option ℕ → Type 0
@@ -193,3 +218,8 @@ pub record AreSaid (paths : List (List ℕ)) (host : List ℕ) (libs : List (Lis
       → IsSo paths host libs list s s.finding
   pub each : (thing : Stated) → IsSo paths host libs list thing thing.finding
       → SomeItem found (λ k s. IsSaidBy thing s)
+
+-- The findings are in order: by file, of each by slot and then where bytes overlap, and then by segment of
+-- the link. So none is said twice of one of these.
+abbrev pub AreInOrder : List (List ℕ) → List ℕ → List (List ℕ) → List Seen → List Stated → Type 0
+AreInOrder paths host libs list found = AscendFrom paths host libs list 0 found

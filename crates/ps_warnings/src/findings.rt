@@ -3,9 +3,10 @@ ghost use Rattle.std.specs.Prelude.{◌≡◌, ◌∷◌, [], IfOk, None, OnOk, 
 ghost use Rattle.std.specs.List.{enumerate_from, flat_map, list_any};
 ghost use Rattle.std.specs.Option.{option_map};
 ghost use Rattle.ps_resolve.specs.Sources.{contents};
-ghost use Rattle.ps_warnings.specs.AllFindings.{all_findings, link_findings_of, findings_of_file, findings_of_files};
-ghost use Rattle.ps_warnings.specs.FileFindings.{comes_from as comes_from_spec, host_met};
+ghost use Rattle.ps_warnings.specs.Searches.AllFindings.{all_findings, findings_of_file, findings_of_files};
+ghost use Rattle.ps_warnings.specs.Searches.FileFindings.{comes_from as comes_from_spec, host_met};
 ghost use Rattle.ps_warnings.specs.Found.{Adds, found_at, found_in_record, about_link, stated_at};
+ghost use Rattle.ps_warnings.specs.WarnedFiles.{AreInOrder, AreSaid};
 ghost use Rattle.ps_check_segments.specs.Paths.{host_order, paths_in};
 ghost use Rattle.ps_check_segments.specs.Seen.{host_records, seen};
 
@@ -205,18 +206,18 @@ fn in_segment(path: &str, name: Name) -> Place<'_>
 /// the link.
 ///
 /// `list` has the segments of the link, and `fault` is the fault that the report explains, if any:
-/// what the explanation says is said once. The findings about entries, records and the link are
-/// exactly those that their definitions give, in their order, whatever the fault is. Returns an error
-/// where memory was refused.
+/// what the explanation says is said once. Each finding about entries, records and the link is so, and
+/// whatever is so is said, whatever the fault is. Returns an error where memory was refused.
 pub fn findings_of<'a, A: Allocator + Copy>(
     alloc: A,
     inputs: &NamedFiles<'a>,
     list: &[ReadSegment<'a>],
     fault: Option<Fault>,
 ) -> Result<Findings<'a, A>, AllocError>
-    ensures { IfOk result (λ found. about_link found
-        ≡ link_findings_of (paths_in inputs.now)
-        inputs.now.host.now (contents inputs.now.libs.now) (map seen list.now)) }
+    ensures said { IfOk result (λ found. AreSaid (paths_in inputs.now) inputs.now.host.now
+        (contents inputs.now.libs.now) (map seen list.now) (about_link found)) }
+    ensures ordered { IfOk result (λ found. AreInOrder (paths_in inputs.now) inputs.now.host.now
+        (contents inputs.now.libs.now) (map seen list.now) (about_link found)) }
 {
     let mut findings = Findings {
         list: Vec::new(alloc),

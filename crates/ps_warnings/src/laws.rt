@@ -1,6 +1,6 @@
 //! Laws of the warnings: what their definitions compute is what the pages say. Functions that do
 //! nothing, whose clauses are the laws.
-ghost use Rattle.std.specs.Prelude.{◌≡◌, ◌↔◌, ◌*◌, ◌<◌, ◌∷◌, [], ℕ, Bool, List, None, Some, false, true};
+ghost use Rattle.std.specs.Prelude.{◌≡◌, ◌↔◌, ◌*◌, ◌<◌, ◌∷◌, [], ℕ, Bool, List, None, Some, false, length, true};
 ghost use Rattle.ps_words.specs.declared.order.Order.{Order as ByteOrder};
 ghost use Rattle.ps_check_segments.specs.Paths.{path_of};
 ghost use Rattle.ps_check_segments.specs.Seen.{Seen};
@@ -13,16 +13,17 @@ ghost use Rattle.ps_filetype.specs.CodeTypes.{is_code_type};
 ghost use Rattle.ps_filetype.specs.Names.{is_respelled};
 ghost use Rattle.ps_linkinfo.specs.Numbered.{numbered_records};
 ghost use Rattle.ps_linkinfo.specs.declared.record.LinkRecord.{LinkRecord as Record};
-ghost use Rattle.ps_warnings.specs.AllFindings.{link_findings_of};
-ghost use Rattle.ps_warnings.specs.EntryFindings.{empty_slot, overlap, shares};
-ghost use Rattle.ps_warnings.specs.FileFindings.{extent};
-ghost use Rattle.ps_warnings.specs.LinkFindings.{other_spelling, taken_slot};
-ghost use Rattle.ps_warnings.specs.RecordFindings.{end_mark, first_above, first_definition, first_past, first_public, low_mark};
+ghost use Rattle.ps_warnings.specs.Searches.AllFindings.{link_findings_of};
+ghost use Rattle.ps_warnings.specs.Searches.EntryFindings.{empty_slot, overlap, shares};
+ghost use Rattle.ps_warnings.specs.Searches.FileFindings.{extent};
+ghost use Rattle.ps_warnings.specs.Found.{Stated, is_warning, warnings_among};
+ghost use Rattle.ps_warnings.specs.Searches.LinkFindings.{other_spelling, taken_slot};
+ghost use Rattle.ps_warnings.specs.Searches.RecordFindings.{end_mark, first_above, first_definition, first_past, first_public, low_mark};
 ghost use Rattle.ps_warnings.specs.SmallEntries.{blank, empty_entry, other_util, segment_of, small_util, util, zero_util};
 ghost use Rattle.ps_warnings.specs.SmallFiles.{demo, low_host, pair_until, small_host, small_library};
 ghost use Rattle.ps_warnings.specs.SmallRecords.{count, cut_after, defining, defining_none, having, no_records, owning, referring, with_operand};
-ghost use Rattle.ps_warnings.specs.Warned.{IsEndMark, IsFoundUpTo, IsHigh, IsNamed, IsOwn, IsPast, IsPastMark, IsRespelled, ShareByte};
-ghost use Rattle.ps_warnings.specs.WarnedFiles.{AreSaid};
+ghost use Rattle.ps_warnings.specs.Warned.{IsEndMark, IsFoundUpTo, IsHigh, IsOwn, IsPast, IsPastMark, IsRespelled, ShareByte, names_segment};
+ghost use Rattle.ps_warnings.specs.WarnedFiles.{AreSaid, IsSo};
 ghost use Rattle.ps_warnings.specs.declared.finding.EntryFinding.TheVariants as entry;
 ghost use Rattle.ps_warnings.specs.declared.finding.Finding.{Finding as FindingOf};
 ghost use Rattle.ps_warnings.specs.declared.finding.Finding.TheVariants as which;
@@ -104,14 +105,16 @@ pub fn overlaps_are_told()
 pub fn named_slots_are_told()
     ensures empty { (slot : ℕ) (taken : Bool) (e : EntryOf) (f : FindingOf)
         → empty_slot slot taken e ≡ Some f
-        → (f ≡ which.Entry (entry.EmptySlot slot e.name e.kind)) × (taken ≡ false) × IsNamed e }
-    ensures each_empty { (slot : ℕ) (taken : Bool) (e : EntryOf) → taken ≡ false → IsNamed e
-        → empty_slot slot taken e ≡ Some (which.Entry (entry.EmptySlot slot e.name e.kind)) }
+        → (f ≡ which.Entry (entry.EmptySlot slot e.name e.kind)) × (taken ≡ false)
+        × (names_segment e ≡ true) }
+    ensures each_empty { (slot : ℕ) (taken : Bool) (e : EntryOf) → taken ≡ false
+        → names_segment e ≡ true → empty_slot slot taken e ≡ Some (which.Entry (entry.EmptySlot slot e.name e.kind)) }
     ensures taken { (slot : ℕ) (what : Part) (e : EntryOf) (f : FindingOf)
         → taken_slot slot what e ≡ Some f
-        → (f ≡ which.Link (link.TakenSlot slot e.name)) × (is_added what ≡ true) × IsNamed e }
+        → (f ≡ which.Link (link.TakenSlot slot e.name)) × (is_added what ≡ true)
+        × (names_segment e ≡ true) }
     ensures each_taken { (slot : ℕ) (what : Part) (e : EntryOf) → is_added what ≡ true
-        → IsNamed e → taken_slot slot what e ≡ Some (which.Link (link.TakenSlot slot e.name)) }
+        → names_segment e ≡ true → taken_slot slot what e ≡ Some (which.Link (link.TakenSlot slot e.name)) }
 {}
 
 /// Two names are nearly the same exactly where they differ in capitals A to Z or in padding alone.
@@ -119,13 +122,13 @@ pub fn near_names_are_told()
     ensures { (a b : List ℕ) → (is_respelled a b ≡ true) ↔ IsRespelled a b }
 {}
 
-/// In whole files, each finding about the link is so, in the segment and the record that it names, and
-/// whatever is so is said. Of an end mark, an empty slot and a slot that is taken, each is said. Of
-/// operands and definitions the first record of a segment is said, of entries that share bytes the
-/// first earlier one, of units that have nearly one name an earlier one.
-pub fn findings_are_said()
+/// Of findings that are said there is a warning among them exactly where something is so that a warning
+/// says.
+pub fn warnings_are_of_things()
     ensures { (paths : List (List ℕ)) (host : List ℕ) (libs : List (List ℕ)) (list : List Seen)
-        → AreSaid paths host libs list (link_findings_of paths host libs list) }
+        (found : List Stated) → AreSaid paths host libs list found
+        → (0 < length (warnings_among found)) ↔ ((thing : Stated) × (is_warning thing ≡ true)
+        × IsSo paths host libs list thing thing.finding) }
 {}
 
 /// Each warning of records is found on small files, and not found on files beside them.

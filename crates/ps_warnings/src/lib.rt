@@ -16,8 +16,8 @@ pub use finding::{
 pub use findings::{Findings, findings_of};
 pub use laws::{
     each_warning_is_found_once, each_warning_of_slots_is_found_once, end_marks_are_read,
-    findings_are_said, high_definitions_are_told, low_marks_are_told, named_slots_are_told,
-    near_names_are_told, nothing_is_found_in_good_files, overlaps_are_told,
-    own_definitions_are_told, past_privates_are_told, past_publics_are_told,
+    high_definitions_are_told, low_marks_are_told, named_slots_are_told, near_names_are_told,
+    nothing_is_found_in_good_files, overlaps_are_told, own_definitions_are_told,
+    past_privates_are_told, past_publics_are_told, warnings_are_of_things,
 };
 pub use weight::Weight;

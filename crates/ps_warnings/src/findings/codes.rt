@@ -41,6 +41,20 @@ pub(super) fn look_at<'a, A: Allocator>(
     }
     let (order, kind) = (dict.order(), dict.entry(slot).kind);
     findings.add_unsure(place, other_number(dict, slot, kind, code))?;
+    look_at_procedures(findings, place, order, kind, slot, code)
+}
+
+/// Looks at the procedures of the code of the segment of this kind in a slot.
+fn look_at_procedures<'a, A: Allocator>(
+    findings: &mut Findings<'a, A>,
+    place: Place<'a>,
+    order: Order,
+    kind: u16,
+    slot: u8,
+    code: &[u8],
+) -> Result<(), AllocError>
+    ensures { OnOk result (Adds (about_link findings.old) [] (about_link findings.new)) }
+{
     findings.add_unsure(place, lost_tables(order, kind, slot, code))?;
     findings.add_unsure(place, odd_data(order, kind, code))?;
     findings.add_unsure(place, other_procedure(order, code))?;

@@ -3,8 +3,9 @@ ghost use Rattle.std.specs.Prelude.{◌≡◌, ◌<◌, Ok, OnOk, false, map, tr
 ghost use Rattle.std.specs.List.{flat_map, list_any};
 ghost use Rattle.std.specs.Option.{option_map};
 ghost use Rattle.ps_codefile.specs.Dictionary.{entry_at, information_of, kind_needs_linking, role_of, slots};
-ghost use Rattle.ps_warnings.specs.EntryFindings.{empty_finding as empty_look_spec, empty_slot as empty_slot_spec, is_left_empty as is_left_empty_spec, names_segment as names_segment_spec};
-ghost use Rattle.ps_warnings.specs.FileFindings.{findings_of_entry, findings_of_segment, findings_of_slot};
+ghost use Rattle.ps_warnings.specs.Searches.EntryFindings.{empty_finding as empty_look_spec, empty_slot as empty_slot_spec};
+ghost use Rattle.ps_warnings.specs.Warned.{is_left_empty as is_left_empty_spec, names_segment as names_segment_spec};
+ghost use Rattle.ps_warnings.specs.Searches.FileFindings.{findings_of_entry, findings_of_segment, findings_of_slot};
 ghost use Rattle.ps_warnings.specs.Found.{Adds, about_link};
 ghost use Rattle.ps_check_segments.specs.Paths.{path_of, paths_in};
 ghost use Rattle.ps_check_segments.specs.Seen.{has_slot as has_slot_spec, seen};
@@ -44,7 +45,7 @@ pub(super) fn look_at<'a, A: Allocator>(
 }
 
 /// Looks at a slot: at its segment, or, in the host, at an entry that is not filled.
-#[tactic(auto, unfolding(crate::specs::FileFindings::findings_of_slot))]
+#[tactic(auto, unfolding(crate::specs::Searches::FileFindings::findings_of_slot))]
 fn look_at_slot<'a, A: Allocator>(
     findings: &mut Findings<'a, A>,
     context: &Context<'_, 'a>,
@@ -74,7 +75,7 @@ fn look_at_slot<'a, A: Allocator>(
 }
 
 /// Looks at an entry that is filled, and at its segment.
-#[tactic(auto, unfolding(crate::specs::FileFindings::findings_of_segment))]
+#[tactic(auto, unfolding(crate::specs::Searches::FileFindings::findings_of_segment))]
 fn look_at_entry<'a, A: Allocator>(
     findings: &mut Findings<'a, A>,
     context: &Context<'_, 'a>,
@@ -111,7 +112,7 @@ fn odd_name(context: &Context<'_, '_>, dict: &Dict<'_>, slot: u8) -> Option<Name
 }
 
 /// Looks at the code and at the link information of an entry.
-#[tactic(auto, unfolding(crate::specs::FileFindings::findings_of_segment))]
+#[tactic(auto, unfolding(crate::specs::Searches::FileFindings::findings_of_segment))]
 fn look_at_segment<'a, A: Allocator>(
     findings: &mut Findings<'a, A>,
     context: &Context<'_, 'a>,
@@ -134,7 +135,7 @@ fn look_at_segment<'a, A: Allocator>(
 }
 
 /// Looks at the code of an entry, and at its link information.
-#[tactic(auto, unfolding(crate::specs::FileFindings::findings_of_segment))]
+#[tactic(auto, unfolding(crate::specs::Searches::FileFindings::findings_of_segment))]
 fn look_at_code<'a, A: Allocator>(
     findings: &mut Findings<'a, A>,
     context: &Context<'_, 'a>,

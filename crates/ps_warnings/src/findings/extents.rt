@@ -3,8 +3,9 @@ ghost use Rattle.std.specs.Prelude.{◌≡◌, ◌<◌, ◌^◌, OnOk, map, nat_
 ghost use Rattle.std.specs.List.{flat_map};
 ghost use Rattle.ps_codefile.specs.Dictionary.{entry_at, slots};
 ghost use Rattle.ps_linkinfo.specs.Records.{reading, used_by};
-ghost use Rattle.ps_warnings.specs.EntryFindings.{overlap, shares as shares_spec};
-ghost use Rattle.ps_warnings.specs.FileFindings.{extent_at as extent_at_spec, extent_of_kind as extent_of_kind_spec, information_end as information_end_spec, overlap_finding};
+ghost use Rattle.ps_warnings.specs.Searches.EntryFindings.{overlap, shares as shares_spec};
+ghost use Rattle.ps_warnings.specs.Searches.FileFindings.{extent_at as extent_at_spec, extent_of_kind as extent_of_kind_spec, overlap_finding};
+ghost use Rattle.ps_warnings.specs.SegmentSizes.{information_end as information_end_spec};
 ghost use Rattle.ps_warnings.specs.Found.{Adds, about_link};
 
 use super::{Findings, in_segment};
@@ -77,7 +78,7 @@ fn extent_of_kind(dict: &Dict<'_>, slot: u8) -> Extent
 }
 
 /// The bytes that an entry has; none where it is not filled or has no code.
-#[tactic(auto, unfolding(crate::specs::FileFindings::extent_at))]
+#[tactic(auto, unfolding(crate::specs::Searches::FileFindings::extent_at))]
 fn extent_at(dict: &Dict<'_>, slot: u8) -> Extent
     requires { slot < SLOTS }
     ensures { result ≡ extent_at_spec dict.now.order dict.now.file slot }
@@ -118,7 +119,7 @@ pub(super) fn look_at<'a, A: Allocator>(
 }
 
 /// Looks whether an entry has bytes in common with an earlier one.
-#[tactic(auto, unfolding(crate::specs::FileFindings::overlap_finding))]
+#[tactic(auto, unfolding(crate::specs::Searches::FileFindings::overlap_finding))]
 fn look_at_extent<'a, A: Allocator>(
     findings: &mut Findings<'a, A>,
     path: &'a str,

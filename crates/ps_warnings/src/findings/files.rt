@@ -1,8 +1,8 @@
 //! What is found in files.
 ghost use Rattle.std.specs.Prelude.{OnOk, map};
 ghost use Rattle.std.specs.Option.{option_map};
-ghost use Rattle.ps_warnings.specs.AllFindings.{findings_of_file};
-ghost use Rattle.ps_warnings.specs.FileFindings.{findings_of_code_file, findings_of_entries};
+ghost use Rattle.ps_warnings.specs.Searches.AllFindings.{findings_of_file};
+ghost use Rattle.ps_warnings.specs.Searches.FileFindings.{findings_of_code_file, findings_of_entries};
 ghost use Rattle.ps_warnings.specs.Found.{Adds, about_link};
 ghost use Rattle.ps_check_segments.specs.Paths.{host_order, path_of, paths_in};
 ghost use Rattle.ps_check_segments.specs.Seen.{seen};

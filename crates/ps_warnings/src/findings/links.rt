@@ -1,10 +1,10 @@
 //! What is found in the link as a whole.
 ghost use Rattle.std.specs.Prelude.{◌≡◌, ◌<◌, ◌≤◌, OnOk, length, map, take, unwrap_or};
 ghost use Rattle.ps_codefile.specs.Dictionary.{entry_at};
-ghost use Rattle.ps_warnings.specs.AllFindings.{findings_of_unit, findings_of_units, findings_of_link};
+ghost use Rattle.ps_warnings.specs.Searches.AllFindings.{findings_of_unit, findings_of_units, findings_of_link};
 ghost use Rattle.ps_warnings.specs.Found.{Adds, about_link};
 ghost use Rattle.ps_check_segments.specs.Paths.{paths_in};
-ghost use Rattle.ps_warnings.specs.LinkFindings.{is_near_unit as is_near_unit_spec, other_spelling as other_spelling_spec, taken_by as taken_by_spec, taken_slot as taken_slot_spec};
+ghost use Rattle.ps_warnings.specs.Searches.LinkFindings.{is_near_unit as is_near_unit_spec, other_spelling as other_spelling_spec, taken_by as taken_by_spec, taken_slot as taken_slot_spec};
 ghost use Rattle.ps_check_segments.specs.Seen.{seen};
 
 use super::entries::names_segment;
@@ -18,7 +18,7 @@ use ps_words::Name;
 use std::alloc::{AllocError, Allocator};
 
 /// Looks at the units of the link. Where the host cannot be read there are none.
-#[tactic(auto, unfolding(crate::specs::AllFindings::findings_of_link))]
+#[tactic(auto, unfolding(crate::specs::Searches::AllFindings::findings_of_link))]
 pub(super) fn look_at<'a, A: Allocator>(
     findings: &mut Findings<'a, A>,
     context: &Context<'_, 'a>,

@@ -87,18 +87,30 @@ pub(super) fn zero_mark(
 ) -> Option<OperandFinding> {
     let used = length_of(records);
     let block_end = BLOCK_SIZE.saturating_mul(blocks_of(used));
-    let start = used.checked_sub(RECORD_LEN)?;
-    let block = after.get(start..block_end.min(after.len()))?;
-    let mut place = start;
+    let Some(start) = used.checked_sub(RECORD_LEN) else {
+        return None;
+    };
+    match (
+        after.get(start..block_end.min(after.len())),
+        after.get(start..),
+    ) {
+        (Some(block), Some(rest)) => behind_zeros(order, block, rest),
+        _ => None,
+    }
+}
+
+/// The record that stands in a block behind zeros; `rest` begins with the block.
+fn behind_zeros(order: Order, block: &[u8], rest: &[u8]) -> Option<OperandFinding> {
+    let mut rest = rest;
     for (index, piece) in block.chunks(RECORD_LEN).enumerate() {
         if index < ZERO_RECORDS {
             if only_byte(piece) != Some(0) {
                 return None;
             }
-        } else if let Some(name) = named_record(order, after.get(place..)?) {
+        } else if let Some(name) = named_record(order, rest) {
             return Some(OperandFinding::ZeroMark { name });
         }
-        place = place.saturating_add(RECORD_LEN);
+        rest = rest.get(RECORD_LEN..).unwrap_or(&[]);
     }
     None
 }

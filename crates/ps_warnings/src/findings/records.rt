@@ -1,17 +1,18 @@
 //! Link information that looks wrong, by what a link does with it.
-ghost use Rattle.std.specs.Prelude.{◌≡◌, ◌<◌, ◌==◌, OnOk, Some};
+ghost use Rattle.std.specs.Prelude.{◌≡◌, ◌<◌, ◌==◌, [], OnOk, Some};
 ghost use Rattle.ps_codefile.specs.Dictionary.{entry_at, information_of};
 ghost use Rattle.std.specs.Option.{option_map};
 ghost use Rattle.ps_linkinfo.specs.Numbered.{numbered_records};
 ghost use Rattle.ps_linkinfo.specs.Records.{reading};
 ghost use Rattle.ps_resolve.specs.Searches.{first_of};
-ghost use Rattle.ps_warnings.specs.FileFindings.{data_size as data_size_spec, definition_findings, findings_of_records};
+ghost use Rattle.ps_warnings.specs.Searches.FileFindings.{definition_findings, findings_of_records};
+ghost use Rattle.ps_warnings.specs.SegmentSizes.{data_size as data_size_spec};
 ghost use Rattle.ps_warnings.specs.Found.{Adds, about_link};
-ghost use Rattle.ps_warnings.specs.RecordFindings.{definition_as as definition_as_spec, end_mark as end_mark_spec, first_above as first_above_spec, first_definition as first_definition_spec, first_high as first_high_spec, first_past, first_past_mark as first_past_mark_spec, first_public as first_public_spec, high_as as high_as_spec, is_defined as is_defined_spec, is_missed as is_missed_spec, is_past as is_past_spec, is_past_mark as is_past_mark_spec, is_requested as is_requested_spec, low_mark as low_mark_spec, missed_or_not as missed_or_not_spec, past_as as past_as_spec, past_mark as past_mark_spec, past_words as past_words_spec, public_as as public_as_spec, public_in, value_of as value_of_spec};
+ghost use Rattle.ps_warnings.specs.Searches.RecordFindings.{definition_as as definition_as_spec, end_mark as end_mark_spec, first_above as first_above_spec, first_definition as first_definition_spec, first_high as first_high_spec, first_past, first_past_mark as first_past_mark_spec, first_public as first_public_spec, high_as as high_as_spec, is_defined as is_defined_spec, is_missed as is_missed_spec, is_past as is_past_spec, is_past_mark as is_past_mark_spec, low_mark as low_mark_spec, missed_or_not as missed_or_not_spec, past_as as past_as_spec, past_mark as past_mark_spec, past_words as past_words_spec, public_as as public_as_spec, public_in, value_of as value_of_spec};
 
 use super::operands::{first_clear_mark, no_references, zero_mark};
 use super::{Context, Findings, in_segment};
-use crate::finding::{Finding, NameFinding, RecordFinding};
+use crate::finding::{Finding, NameFinding, Place, RecordFinding};
 use ps_codefile::code_layout::NUMBERS;
 use ps_codefile::dictionary_layout::SLOTS;
 use ps_codefile::kinds::HOSTSEG;
@@ -47,22 +48,31 @@ pub(super) fn look_at<'a, A: Allocator>(
     findings.add_unsure_of_record(place, first_odd_name(&records, context.are_small))?;
     findings.add_of_record(place, first_past_private(&records, code))?;
     findings.add_of_record(place, first_public(&records, context.host, code))?;
-    let clear = if is_run {
-        None
-    } else {
-        first_clear_mark(&records, code)
-    };
-    findings.add_unsure_of_record(place, clear)?;
-    let has_end = end_mark(&records).is_some();
-    let lost = if is_run {
-        None
-    } else {
-        no_references(order, entry.kind, &records, has_end, code)
-    };
-    findings.add_unsure(place, lost)?;
+    look_at_operands(findings, place, order, entry.kind, &records, code, is_run)?;
     findings.add_unsure(place, zero_mark(order, &records, after))?;
     let size = data_size(order, code);
     look_at_definitions(findings, context, path, &entry, size, &records)
+}
+
+/// Looks at the operands that the references of a segment name, and at references that may be lost. A
+/// run of one byte in its code silences both.
+fn look_at_operands<'a, A: Allocator>(
+    findings: &mut Findings<'a, A>,
+    place: Place<'a>,
+    order: Order,
+    kind: u16,
+    records: &LinkInformation<'_>,
+    code: &[u8],
+    is_run: bool,
+) -> Result<(), AllocError>
+    ensures { OnOk result (Adds (about_link findings.old) [] (about_link findings.new)) }
+{
+    if is_run {
+        return Ok(());
+    }
+    let has_end = end_mark(records).is_some();
+    findings.add_unsure_of_record(place, first_clear_mark(records, code))?;
+    findings.add_unsure(place, no_references(order, kind, records, has_end, code))
 }
 
 /// Looks at what the records of a segment define.
@@ -98,7 +108,7 @@ fn is_host(entry: &Entry) -> bool
 }
 
 /// The data size of the outer block of a code, in bytes.
-#[tactic(auto, unfolding(crate::specs::FileFindings::data_size))]
+#[tactic(auto, unfolding(crate::specs::SegmentSizes::data_size))]
 fn data_size(order: Order, code: &[u8]) -> Option<u16>
     ensures { result ≡ data_size_spec order code.now }
 {
@@ -184,13 +194,6 @@ fn first_past_private(records: &LinkInformation<'_>, code: &[u8]) -> Option<(usi
         }
     }
     None
-}
-
-/// A unit refers to a name.
-fn is_requested(records: &LinkInformation<'_>, name: &Name) -> bool
-    ensures { result ≡ is_requested_spec records.now name.now }
-{
-    records.find(name, Sort::Request).is_some()
 }
 
 /// The base offset of a public variable of this name: that of the first definition, if it is of a
@@ -338,7 +341,7 @@ fn is_defined(host: Option<&LinkInformation<'_>>, name: &Name) -> bool
 fn is_missed(records: &LinkInformation<'_>, host: Option<&LinkInformation<'_>>, name: &Name) -> bool
     ensures { result ≡ is_missed_spec records.now (option_map (λ h. h.now) host.entry) name.now }
 {
-    is_requested(records, name) && !is_defined(host, name)
+    records.find(name, Sort::Request).is_some() && !is_defined(host, name)
 }
 
 /// A definition of a name that is missed, or one that has no effect, if that is looked for.

@@ -1,5 +1,5 @@
 use Rattle.std.proofs.lemmas.Result.{on_ok_weaker}
-use Rattle.ps_warnings.specs.AllFindings.{all_findings}
+use Rattle.ps_warnings.specs.Searches.AllFindings.{all_findings}
 use Rattle.ps_warnings.proofs.Found.{adds_both}
 use Rattle.ps_warnings.proofs.findings.add_all.Goals as goal
 

@@ -1,5 +1,5 @@
 use Rattle.std.proofs.lemmas.Result.{on_ok_weaker}
-use Rattle.ps_warnings.specs.AllFindings.{findings_of_files}
+use Rattle.ps_warnings.specs.Searches.AllFindings.{findings_of_files}
 use Rattle.ps_warnings.proofs.Found.{adds_both}
 use Rattle.ps_warnings.proofs.findings.add_of_files.Goals as goal
 

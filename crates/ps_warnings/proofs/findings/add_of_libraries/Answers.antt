@@ -3,7 +3,7 @@ use Rattle.std.proofs.lemmas.List.{drop_more}
 use Rattle.std.specs.Option.{option_map}
 use Rattle.ps_linkinfo.specs.declared.record.LinkRecord.{LinkRecord as Record}
 use Rattle.ps_resolve.specs.Sources.{contents}
-use Rattle.ps_warnings.specs.AllFindings.{findings_of_file}
+use Rattle.ps_warnings.specs.Searches.AllFindings.{findings_of_file}
 use Rattle.ps_check_segments.specs.Paths.{host_order, paths_in}
 use Rattle.ps_check_segments.specs.Seen.{seen}
 use Rattle.ps_warnings.proofs.Found.{numbered_left, numbered_over, owes_all, owes_less, owes_none}

@@ -2,7 +2,7 @@ use Rattle.std.proofs.Common.{◌+◌, drop, map}
 use Rattle.std.specs.List.{enumerate_from, flat_map}
 use Rattle.std.specs.Option.{option_map}
 use Rattle.ps_resolve.specs.Sources.{contents}
-use Rattle.ps_warnings.specs.AllFindings.{findings_of_file}
+use Rattle.ps_warnings.specs.Searches.AllFindings.{findings_of_file}
 use Rattle.ps_warnings.specs.Found.{about_link}
 use Rattle.ps_check_segments.specs.Paths.{host_order, paths_in}
 use Rattle.ps_check_segments.specs.Seen.{seen}

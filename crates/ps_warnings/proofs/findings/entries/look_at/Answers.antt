@@ -1,6 +1,6 @@
 use Rattle.std.proofs.Common.{map, refl}
 use Rattle.std.specs.Option.{option_map}
-use Rattle.ps_warnings.specs.FileFindings.{findings_of_slot}
+use Rattle.ps_warnings.specs.Searches.FileFindings.{findings_of_slot}
 use Rattle.ps_check_segments.specs.Paths.{path_of, paths_in}
 use Rattle.ps_check_segments.specs.Seen.{seen}
 use Rattle.ps_warnings.proofs.Found.{none_then, owes_after, owes_all, owes_less, owes_none, slots_left, slots_over}

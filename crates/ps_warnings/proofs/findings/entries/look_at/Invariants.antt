@@ -2,7 +2,7 @@ use Rattle.std.proofs.Common.{◌-◌, map}
 use Rattle.std.specs.List.{flat_map, range_with_len}
 use Rattle.std.specs.Option.{option_map}
 use Rattle.ps_codefile.specs.Dictionary.{slots}
-use Rattle.ps_warnings.specs.FileFindings.{findings_of_slot}
+use Rattle.ps_warnings.specs.Searches.FileFindings.{findings_of_slot}
 use Rattle.ps_warnings.specs.Found.{about_link}
 use Rattle.ps_check_segments.specs.Paths.{path_of, paths_in}
 use Rattle.ps_check_segments.specs.Seen.{seen}

@@ -2,7 +2,7 @@ use Rattle.std.proofs.Common.{◌<◌, length, arith}
 use Rattle.std.proofs.lemmas.List.{take_more_set}
 use Rattle.std.proofs.lemmas.List.FromFn.{map-range_with_len_more}
 use Rattle.std.proofs.lemmas.Grind.{common_steps}
-use Rattle.ps_warnings.specs.FileFindings.{extent_at}
+use Rattle.ps_warnings.specs.Searches.FileFindings.{extent_at}
 use Rattle.ps_warnings.proofs.findings.extents.extents_of.Goals as goal
 
 pub loop-slot-preserved : goal.loop-slot-preserved

@@ -1,6 +1,6 @@
 use Rattle.std.proofs.Common.{◌≡◌, length, take, map}
 use Rattle.std.specs.List.{range_with_len}
-use Rattle.ps_warnings.specs.FileFindings.{extent_at}
+use Rattle.ps_warnings.specs.Searches.FileFindings.{extent_at}
 use Rattle.ps_codefile.specs.declared.dictionary_layout.TheConstants.{SLOT_COUNT}
 use Rattle.ps_warnings.proofs.findings.extents.extents_of.Given as goal
 

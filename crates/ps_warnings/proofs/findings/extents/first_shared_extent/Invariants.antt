@@ -1,6 +1,6 @@
 use Rattle.std.proofs.Common.{◌≡◌, drop}
 use Rattle.std.specs.List.{find}
-use Rattle.ps_warnings.specs.EntryFindings.{shares}
+use Rattle.ps_warnings.specs.Searches.EntryFindings.{shares}
 use Rattle.ps_warnings.proofs.findings.extents.first_shared_extent.Given as goal
 
 -- the extent is looked for in what is left

@@ -1,6 +1,6 @@
 use Rattle.std.proofs.Common.{drop}
 use Rattle.std.specs.List.{flat_map}
-use Rattle.ps_warnings.specs.FileFindings.{overlap_finding}
+use Rattle.ps_warnings.specs.Searches.FileFindings.{overlap_finding}
 use Rattle.ps_warnings.specs.Found.{about_link}
 use Rattle.ps_warnings.proofs.Found.{Owes}
 use Rattle.ps_warnings.proofs.findings.extents.look_at.Given as goal

@@ -1,5 +1,5 @@
 use Rattle.std.proofs.lemmas.Result.{on_ok_weaker}
-use Rattle.ps_warnings.specs.FileFindings.{findings_of_entries}
+use Rattle.ps_warnings.specs.Searches.FileFindings.{findings_of_entries}
 use Rattle.ps_warnings.proofs.Found.{adds_both, none_then}
 use Rattle.ps_warnings.proofs.findings.files.look_at_dictionary.Goals as goal
 

@@ -1,8 +1,8 @@
 use Rattle.std.proofs.Common.{◌∙◌, List, map, ap, sym}
 use Rattle.std.proofs.lemmas.List.{take-map}
 use Rattle.std.proofs.lemmas.Result.{on_ok_weaker}
-use Rattle.ps_warnings.specs.AllFindings.{findings_of_unit}
-use Rattle.ps_warnings.specs.LinkFindings.{other_spelling}
+use Rattle.ps_warnings.specs.Searches.AllFindings.{findings_of_unit}
+use Rattle.ps_warnings.specs.Searches.LinkFindings.{other_spelling}
 use Rattle.ps_check_segments.specs.Seen.{Seen, seen}
 use Rattle.ps_check_segments.specs.declared.segments.ReadSegment.{ReadSegment}
 use Rattle.ps_warnings.proofs.Found.{adds_both}

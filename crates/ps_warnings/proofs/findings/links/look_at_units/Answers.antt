@@ -1,7 +1,7 @@
 use Rattle.std.proofs.Common.{◌≡◌, ◌∙◌, ◌∷◌, ◌+◌, List, ap, drop, map, refl, sym}
 use Rattle.std.proofs.lemmas.List.{drop_more}
 use Rattle.ps_check_segments.specs.Paths.{paths_in}
-use Rattle.ps_warnings.specs.AllFindings.{findings_of_unit, findings_of_units}
+use Rattle.ps_warnings.specs.Searches.AllFindings.{findings_of_unit, findings_of_units}
 use Rattle.ps_check_segments.specs.Seen.{seen}
 use Rattle.ps_check_segments.specs.declared.segments.ReadSegment.{ReadSegment}
 use Rattle.ps_warnings.proofs.Found.{numbered_left, owes_all, owes_less}

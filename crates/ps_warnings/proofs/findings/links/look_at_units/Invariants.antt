@@ -1,7 +1,7 @@
 use Rattle.std.proofs.Common.{drop, map}
 use Rattle.std.specs.List.{enumerate_from, flat_map}
 use Rattle.ps_check_segments.specs.Paths.{paths_in}
-use Rattle.ps_warnings.specs.AllFindings.{findings_of_unit, findings_of_units}
+use Rattle.ps_warnings.specs.Searches.AllFindings.{findings_of_unit, findings_of_units}
 use Rattle.ps_warnings.specs.Found.{about_link}
 use Rattle.ps_check_segments.specs.Seen.{seen}
 use Rattle.ps_warnings.proofs.Found.{Owes}

@@ -1,6 +1,6 @@
 use Rattle.std.proofs.Common.{◌≡◌, drop, map}
 use Rattle.std.specs.List.{find}
-use Rattle.ps_warnings.specs.LinkFindings.{is_near_unit}
+use Rattle.ps_warnings.specs.Searches.LinkFindings.{is_near_unit}
 use Rattle.ps_check_segments.specs.Seen.{seen}
 use Rattle.ps_warnings.proofs.findings.links.other_spelling.Given as goal
 

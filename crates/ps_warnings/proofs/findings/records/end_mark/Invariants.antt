@@ -1,7 +1,7 @@
 use Rattle.std.proofs.Common.{◌≡◌}
 use Rattle.ps_linkinfo.specs.Numbered.{numbered_records}
 use Rattle.ps_resolve.specs.Searches.{first_of}
-use Rattle.ps_warnings.specs.RecordFindings.{mark_in}
+use Rattle.ps_warnings.specs.Searches.RecordFindings.{mark_in}
 use Rattle.ps_warnings.proofs.findings.records.end_mark.Given as goal
 
 -- the first end mark of all is the first of those that are left

@@ -1,7 +1,7 @@
 use Rattle.std.proofs.Common.{◌≡◌}
 use Rattle.std.specs.Option.{option_map}
 use Rattle.ps_linkinfo.specs.Numbered.{numbered_records}
-use Rattle.ps_warnings.specs.RecordFindings.{first_definition}
+use Rattle.ps_warnings.specs.Searches.RecordFindings.{first_definition}
 use Rattle.ps_warnings.proofs.findings.records.first_definition.Given as goal
 
 -- the first of all is the first of those that are left

@@ -1,7 +1,7 @@
 use Rattle.std.proofs.Common.{◌≡◌}
 use Rattle.ps_linkinfo.specs.Numbered.{numbered_records}
 use Rattle.ps_resolve.specs.Searches.{first_of}
-use Rattle.ps_warnings.specs.RecordFindings.{public_in}
+use Rattle.ps_warnings.specs.Searches.RecordFindings.{public_in}
 use Rattle.ps_warnings.proofs.findings.records.first_public_of.Given as goal
 
 -- the first of all is the first of those that are left

@@ -1,5 +1,5 @@
 use Rattle.std.proofs.lemmas.Result.{on_ok_weaker}
-use Rattle.ps_warnings.specs.FileFindings.{findings_of_records}
+use Rattle.ps_warnings.specs.Searches.FileFindings.{findings_of_records}
 use Rattle.ps_warnings.proofs.Found.{adds_both, none_then, then_none}
 use Rattle.ps_warnings.proofs.findings.records.look_at.Goals as goal
 
@@ -33,7 +33,7 @@ returns g c =
     )
     at c.look_at_definitions.ensures in
     let before = none_then c.in_ok-add_unsure_of_record.ensures past in
-    let between = then_none public (then_none c.in_ok-add_unsure_of_record-2.ensures
-    (then_none c.in_ok-add_unsure.ensures c.in_ok-add_unsure-2.ensures)) in
+    let between = then_none public
+    (then_none c.in_ok-look_at_operands.ensures c.in_ok-add_unsure.ensures) in
     on_ok_weaker c.look_at_definitions.result
     (λ more. adds_both (adds_both before between) more) defined

@@ -1,4 +1,4 @@
--- What looks wrong in the link information of a segment, by what a link does with it.
+-- How a check searches the link information of a segment; no contract of another crate cites it.
 use Rattle.std.specs.Prelude.{ℕ, ◌+◌, ◌-◌, ◌*◌, ◌==◌, ◌&&◌, ◌||◌, not, if◌then◌else◌, List, length, nat_le, nat_lt, Bool, true, false, Option, Some, None, is_none, is_some, option_and_then}
 use Rattle.std.specs.Option.{option_map}
 use Rattle.ps_words.specs.Words.{displacement_at}

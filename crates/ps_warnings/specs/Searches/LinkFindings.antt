@@ -1,4 +1,5 @@
--- What looks wrong in a link as a whole, by its segments as they were read, in their order.
+-- How a check searches the segments of a link as they were read, in their order; no contract of
+-- another crate cites it.
 use Rattle.std.specs.Prelude.{ℕ, ◌&&◌, if◌then◌else◌, List, nat_lt, Bool, Option, Some, None}
 use Rattle.std.specs.List.{find}
 use Rattle.std.specs.Option.{option_map}
@@ -8,7 +9,7 @@ use Rattle.ps_codefile.specs.declared.entry.Entry.{Entry}
 use Rattle.ps_filetype.specs.Names.{is_respelled}
 use Rattle.ps_check_segments.specs.SegmentParts.{is_added, is_unit}
 use Rattle.ps_check_segments.specs.declared.segments.SegmentPart.{SegmentPart}
-use Rattle.ps_warnings.specs.EntryFindings.{names_segment}
+use Rattle.ps_warnings.specs.Warned.{names_segment}
 use Rattle.ps_check_segments.specs.Seen.{Seen}
 use Rattle.ps_warnings.specs.declared.finding.LinkFinding.TheVariants as finding
 use Rattle.ps_warnings.specs.declared.finding.Finding.{Finding}

@@ -1,5 +1,6 @@
--- The findings about the link, of a host and its libraries, by the segments of the link as they were
--- read: in each file that is a code file, in the order of the files, and then in the whole link.
+-- How a check searches a host and its libraries, by the segments of the link as they were read; no
+-- contract of another crate cites it. It looks at each file that is a code file, in the order of the
+-- files, and then at the whole link.
 use Rattle.std.specs.Prelude.{ℕ, if◌then◌else◌, List, [], ◌∷◌, ◌++◌, take, Option, Some, None, unwrap_or}
 use Rattle.std.specs.List.{enumerate_from, flat_map}
 use Rattle.std.specs.Option.{option_map_or}
@@ -8,9 +9,9 @@ use Rattle.ps_words.specs.declared.order.Order.{Order}
 use Rattle.ps_codefile.specs.Dictionary.{opened_alone}
 use Rattle.ps_filetype.specs.CodeTypes.{is_code_type}
 use Rattle.ps_linkinfo.specs.declared.record.LinkRecord.{LinkRecord as Record}
-use Rattle.ps_warnings.specs.FileFindings.{findings_of_code_file}
-use Rattle.ps_warnings.specs.Found.{Stated, found_at, warnings_among}
-use Rattle.ps_warnings.specs.LinkFindings.{other_spelling, taken_by}
+use Rattle.ps_warnings.specs.Searches.FileFindings.{findings_of_code_file}
+use Rattle.ps_warnings.specs.Found.{Stated, found_at}
+use Rattle.ps_warnings.specs.Searches.LinkFindings.{other_spelling, taken_by}
 use Rattle.ps_check_segments.specs.Paths.{host_order, path_of}
 use Rattle.ps_check_segments.specs.Seen.{Seen, host_records}
 
@@ -56,9 +57,3 @@ all_findings paths program host libs list =
 abbrev pub link_findings_of : List (List ℕ) → List ℕ → List (List ℕ) → List Seen
     → List Stated
 link_findings_of paths host libs list = all_findings paths (host_records list) host libs list
-
--- the warnings of files whose link has these segments
-abbrev pub link_warnings_of : List (List ℕ) → List ℕ → List (List ℕ) → List Seen
-    → List Stated
-link_warnings_of paths host libs list =
-    warnings_among (link_findings_of paths host libs list)

@@ -1,30 +1,24 @@
--- The findings about the link in files: in the records of their segments, in their entries, and where
--- entries overlap. Each file is looked at with the records of the host program.
-use Rattle.std.specs.Prelude.{ℕ, Bool, ◌+◌, ◌*◌, ◌==◌, ◌&&◌, if◌then◌else◌, List, [], ◌++◌, length, map, nat_lt, false, true, Option, Some, None, Result, Ok, Err, bytes_eq, option_and_then}
+-- How a check searches a file, in the records of its segments, in its entries, and where entries
+-- overlap; no contract of another crate cites it. Each file is looked at with the records of the host
+-- program.
+use Rattle.std.specs.Prelude.{ℕ, Bool, ◌+◌, ◌*◌, ◌==◌, ◌&&◌, if◌then◌else◌, List, [], ◌++◌, map, nat_lt, false, true, Option, Some, None, Result, Ok, Err, bytes_eq}
 use Rattle.std.specs.List.{flat_map, list_any}
 use Rattle.std.specs.Option.{option_map_or}
 use Rattle.std.specs.Result.{is_ok, result_ok}
-use Rattle.ps_words.specs.Words.{blocks}
 use Rattle.ps_words.specs.declared.fault.Reason.{Reason}
 use Rattle.ps_words.specs.declared.order.Order.{Order}
 use Rattle.ps_codefile.specs.Dictionary.{slots, code_of, entry_at, information_of, is_filled, kind_needs_linking, opened_beside, role_of}
-use Rattle.ps_codefile.specs.Procedures.{outer_data_size, read_tables}
 use Rattle.ps_codefile.specs.declared.entry.Entry.{Entry}
 use Rattle.ps_linkinfo.specs.Numbered.{numbered_records}
-use Rattle.ps_linkinfo.specs.Records.{reading, used_by}
+use Rattle.ps_linkinfo.specs.Records.{reading}
 use Rattle.ps_linkinfo.specs.declared.record.LinkRecord.{LinkRecord as Record}
-use Rattle.ps_warnings.specs.EntryFindings.{empty_finding, overlap}
+use Rattle.ps_warnings.specs.Searches.EntryFindings.{empty_finding, overlap}
 use Rattle.ps_warnings.specs.Found.{Stated, found_at, found_in_record}
-use Rattle.ps_warnings.specs.RecordFindings.{end_mark, first_above, first_definition, first_past, first_public, low_mark}
+use Rattle.ps_warnings.specs.Searches.RecordFindings.{end_mark, first_above, first_definition, first_past, first_public, low_mark}
+use Rattle.ps_warnings.specs.SegmentSizes.{data_size, information_end}
 use Rattle.ps_check_segments.specs.Seen.{Seen, has_slot}
 use Rattle.ps_warnings.specs.declared.findings.extents.Extent.{Extent}
 use Rattle.ps_codefile.specs.declared.dictionary_layout.TheConstants.{SLOTS}
-
--- the data size of the outer block of a code, in bytes, where its procedure tables can be read
-unfoldable pub data_size : Order → List ℕ → Option ℕ
-data_size order code = if nat_lt (length code) 2 then None
-    else option_and_then (λ t. outer_data_size t.order t.code)
-    (result_ok (read_tables order code false))
 
 -- what looks wrong in the definitions of a segment: of a host program its end mark and the first
 -- that is too high, of a unit the first that is missed and the first other one, by what the host
@@ -83,11 +77,6 @@ findings_of_slot path host list order bytes file slot =
 -- the bytes of a file from one on and before another, which an entry has; nothing
 abbrev pub extent : ℕ → ℕ → ℕ → Extent
 extent slot start end = record { slot = slot; start = start; end = end }
-
--- where the link information of an entry ends, up to the first record that cannot be read
-abbrev pub information_end : Order → List ℕ → Entry → ℕ
-information_end order bytes e = 512 * (e.address + blocks e.length)
-    + used_by (reading order (information_of bytes e)).0
 
 -- what an entry has of its file: its code, and the link information after it if that is read
 abbrev pub extent_of_kind : Order → List ℕ → ℕ → Entry → Extent

@@ -1,24 +1,16 @@
--- What looks wrong in the entries of a dictionary, by what a link does with them.
-use Rattle.std.specs.Prelude.{ℕ, ◌==◌, ◌&&◌, ◌||◌, not, if◌then◌else◌, List, nat_lt, Bool, Option, Some, None, Result, Ok, Err}
+-- How a check searches the entries of a dictionary; no contract of another crate cites it.
+use Rattle.std.specs.Prelude.{ℕ, ◌&&◌, not, if◌then◌else◌, List, nat_lt, Bool, Option, Some, None, Result, Ok, Err}
 use Rattle.std.specs.List.{find}
 use Rattle.std.specs.Option.{option_map}
 use Rattle.ps_words.specs.declared.fault.Reason.{Reason}
-use Rattle.ps_codefile.specs.Dictionary.{is_nameless}
 use Rattle.ps_codefile.specs.declared.entry.Entry.{Entry}
 use Rattle.ps_codefile.specs.declared.entry.Role.{Role}
 use Rattle.ps_codefile.specs.declared.entry.Role.TheVariants as role
+use Rattle.ps_warnings.specs.Warned.{names_segment}
 use Rattle.ps_warnings.specs.declared.findings.extents.Extent.{Extent}
 use Rattle.ps_warnings.specs.declared.finding.EntryFinding.TheVariants as finding
 use Rattle.ps_warnings.specs.declared.finding.Finding.{Finding}
 use Rattle.ps_warnings.specs.declared.finding.Finding.TheVariants as which
-
--- kinds that a compiler leaves in empty slots that have no name
-abbrev pub is_left_empty : ℕ → Bool
-is_left_empty kind = kind == 0 || kind == 2 || kind == 3 || kind == 4
-
--- the entry has a name, or a kind that no entry without a name has
-abbrev pub names_segment : Entry → Bool
-names_segment e = not (is_nameless e.name) || not (is_left_empty e.kind)
 
 -- an empty slot, which no unit takes, has an entry that names a segment
 abbrev pub empty_slot : ℕ → Bool → Entry → Option Finding
