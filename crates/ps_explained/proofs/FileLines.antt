@@ -1,15 +1,14 @@
 -- The lines of files, one after another.
-use Rattle.std.proofs.Common.{◌≡◌, ◌∙◌, ◌+◌, ◌/◌, ◌%◌, ◌==◌, ◌<◌, ◌++◌, ◌∷◌, [], ℕ, Bool, Bor, List, None, Some, true, false, not, codes, ap, arith, drop, get_or, length, refl, subst, sym}
-use Rattle.std.specs.Prelude.{if◌then◌else◌, Option, decimal, nat_lt}
-use Rattle.std.specs.Fmt.{digit_glyph}
+use Rattle.std.proofs.Common.{◌≡◌, ◌+◌, ◌/◌, ◌%◌, ◌==◌, ◌<◌, ◌++◌, ◌∷◌, [], ℕ, Bool, Bor, List, None, Some, true, false, codes, drop, get_or, length, refl}
+use Rattle.std.specs.Prelude.{if◌then◌else◌, Option}
 use Rattle.std.specs.Str.{IsUtf8}
 use Rattle.std.proofs.lemmas.List.{append_assoc, drop_more}
+use Rattle.std.proofs.lemmas.List.Folds.{list_all-append}
 use Rattle.ps_words.specs.declared.order.Order.TheVariants.{Little, Big}
 use Rattle.ps_filetype.specs.CodeFiles.{code_file_word}
-use Rattle.ps_filetype.specs.Shown.{shown_name, shown_path}
 use Rattle.ps_filetype.specs.TypeWords.{image_words, line_end_words, type_words, volume_words}
 use Rattle.ps_filetype.specs.declared.code_file.CodeFile.{CodeFile}
-use Rattle.ps_filetype.specs.declared.code_file.CodeFile.TheVariants.{Host, Library, Linked, Mixed}
+use Rattle.ps_filetype.specs.declared.code_file.CodeFile.TheVariants.{Host}
 use Rattle.ps_filetype.specs.declared.file_type.FileType.{FileType}
 use Rattle.ps_filetype.specs.declared.file_type.FileType.TheVariants as type
 use Rattle.ps_filetype.specs.declared.images.Image.{Image}
@@ -23,7 +22,7 @@ use Rattle.ps_explained.specs.FileLines.{AreFileLines, IsByteOrder, file_words, 
 use Rattle.ps_explained.specs.SlotLines.{AddsSlotLines, one_line}
 use Rattle.ps_explained.specs.declared.orders.ByteOrder.{ByteOrder}
 use Rattle.ps_explained.specs.declared.orders.ByteOrder.TheVariants as order
-use Rattle.ps_explained.proofs.OneLine.{above, and_both, one_append, one_digits, one_name, one_path}
+use Rattle.ps_explained.proofs.OneLine.{glyph, one_append, one_digits, one_name, one_path}
 use Rattle.ps_explained.proofs.SlotLines.{adds_no_line}
 
 module _ (paths all : List (List ℕ)) where
@@ -40,11 +39,7 @@ module _ (paths all : List (List ℕ)) where
   line_more number file files path before new named added so_far = record {
     rest = λ more are.
         let line = file_words number (path_of paths number) (length file) added.0 ++ 10 ∷ [] in
-        let whole : new ++ more ≡ before ++ (line ++ more) =
-        ap (λ (t : List ℕ). t ++ more) (added.2
-        ∙ ap (λ (p : List ℕ). before ++ (file_words number p (length file) added.0 ++ 10 ∷ [])) named)
-        ∙ append_assoc before line more in
-        subst (λ (t : List ℕ). AreFileLines paths 0 all t) (sym whole)
+        rw (added.2, named, append_assoc before line more)
         (so_far.rest (line ++ more) (added.0, more, added.1, are, refl));
   }
 
@@ -57,74 +52,35 @@ module _ (paths all : List (List ℕ)) where
       → FilesLeft ((i + 1) + 1) (contents (drop (i + 1) libs)) new
   line_more_at libs i none path before new named added within so_far =
       line_more (i + 1) (get_or libs i none).now (contents (drop (i + 1) libs)) path before new
-      named added
-      (subst (λ (fs : List (List ℕ)). FilesLeft (i + 1) fs before)
-      (ap contents (drop_more libs i none within)) so_far)
+      named added (rw (drop_more libs i none within) at so_far)
 
 -- what is within a line
 one_code_file : (c : CodeFile) → one_line (code_file_word c) ≡ true
 one_code_file Host = refl
-one_code_file Library = refl
-one_code_file Linked = refl
-one_code_file Mixed = refl
+one_code_file other = refl
 
 one_image : (i : Image) → one_line (image_words i) ≡ true
 one_image image.Blocks = refl
-one_image image.DosOrder = refl
-one_image image.TwoImg = refl
-one_image image.OtherOrder = refl
-one_image image.TwoImgDosOrder = refl
-one_image image.DiskCopy = refl
-one_image image.Nibbles = refl
+one_image other = refl
 
 one_volume : (name : Option (List ℕ)) → one_line (volume_words name) ≡ true
 one_volume None = refl
-one_volume (Some name) =
-    one_append (codes ", of the volume ") (shown_name name) refl (one_name name)
+one_volume (Some name) = simp (list_all-append, one_name name)
 
 one_end : (how : LineEnds) → one_line (line_end_words how) ≡ true
 one_end ends.Pairs = refl
-one_end ends.Returns = refl
-one_end ends.Feeds = refl
-
-glyph : (d : ℕ) → not (digit_glyph true d == 10) ≡ true
-glyph d = by (nat_lt d 10)
-  where
-    by : (t : Bool) → not ((if t then 48 + d else 55 + d) == 10) ≡ true
-    by true = above 48 d (omega arith)
-    by false = above 55 d (omega arith)
+one_end other = refl
 
 one_type : (t : FileType) → one_line (type_words t) ≡ true
 one_type (type.Code c) = one_code_file c
-one_type type.Swapped = refl
-one_type type.MacBinary = refl
-one_type (type.Header n) =
-    one_append (codes "a code file behind a header of ") (decimal n ++ codes " bytes") refl
-    (one_append (decimal n) (codes " bytes") (one_digits 10 n) refl)
-one_type type.Gzip = refl
-one_type type.Zip = refl
-one_type type.Elf = refl
-one_type type.AppleSingle = refl
-one_type type.AppleDouble = refl
+one_type (type.Header n) = simp (list_all-append, one_digits 10 n)
 one_type (type.Later release.Three) = refl
 one_type (type.Later release.Four) = refl
 one_type (type.Disk form name) =
     one_append (image_words form) (volume_words name) (one_image form) (one_volume name)
-one_type type.SystemText = refl
-one_type type.Text = refl
-one_type type.Encoded = refl
-one_type type.WideText = refl
-one_type type.Empty = refl
-one_type (type.OneByte b) =
-    let low = digit_glyph true (b % 16) in
-    let rest = low ∷ codes " alone" in
-    one_append (codes "a file of the byte ") (digit_glyph true (b / 16) ∷ rest) refl
-    (and_both (not (digit_glyph true (b / 16) == 10)) (one_line rest) (glyph (b / 16))
-    (and_both (not (low == 10)) (one_line (codes " alone")) (glyph (b % 16)) refl))
-one_type (type.Converted how) =
-    one_append (codes "a file whose line ends were converted: ") (line_end_words how) refl
-    (one_end how)
-one_type type.Unknown = refl
+one_type (type.OneByte b) = rw (glyph true (b / 16), glyph true (b % 16)) refl
+one_type (type.Converted how) = one_end how
+one_type other = refl
 
 one_order : (o : ByteOrder) → one_line (order_words o) ≡ true
 one_order (order.Known Little) = refl
@@ -141,19 +97,14 @@ one_uneven size = by (size % 512 == 0)
 
 one_file : (number : ℕ) (path : List ℕ) (size : ℕ) (o : ByteOrder) → IsUtf8 path
     → one_line (file_words number path size o) ≡ true
-one_file number path size o text =
-    let ends = uneven_words size ++ order_words o in
-    let bytes = codes " bytes, " ++ ends in
-    let sized = codes ": " ++ (decimal size ++ bytes) in
-    let named = codes " " ++ (shown_path path ++ sized) in
-    one_append (codes "file ") (decimal number ++ named) refl
-    (one_append (decimal number) named (one_digits 10 number)
-    (one_append (codes " ") (shown_path path ++ sized) refl
-    (one_append (shown_path path) sized (one_path path text)
-    (one_append (codes ": ") (decimal size ++ bytes) refl
-    (one_append (decimal size) bytes (one_digits 10 size)
-    (one_append (codes " bytes, ") ends refl
-    (one_append (uneven_words size) (order_words o) (one_uneven size) (one_order o))))))))
+one_file number path size o text = simp (
+  list_all-append,
+  one_path path text,
+  one_digits 10 number,
+  one_digits 10 size,
+  one_uneven size,
+  one_order o,
+)
 
 -- the line of a file is no segment's
 pub adds_file : (number : ℕ) (path : List ℕ) (size : ℕ) (o : ByteOrder) (old new : List ℕ)

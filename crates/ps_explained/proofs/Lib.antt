@@ -2,8 +2,9 @@ pub mod Tables
 pub mod OneLine
 pub mod SlotLines
 pub mod LineOfSegment
-pub mod LinesOfSegments
 pub mod ReadLines
 pub mod FileLines
 pub mod FirstOf
 pub mod OverviewTexts
+pub mod Unopened
+pub mod SmallOverviews

@@ -1,51 +1,52 @@
 -- Texts without a byte 10.
-use Rattle.std.proofs.Common.{zero, suc, ◌||◌, Bor, ◌≡◌, ◌++◌, ◌∷◌, ◌+◌, ◌/◌, ◌%◌, ◌==◌, ◌&&◌, ◌≤◌, ◌<◌, [], ℕ, List, Bool, true, false, not, cond, length, take, refl, sym, ap, subst, arith}
-use Rattle.std.specs.Prelude.{if◌then◌else◌, Option, Some, None, IfSome, MatchOption, chars, nat_lt}
+use Rattle.std.proofs.Common.{zero, suc, Bor, ◌≡◌, ◌++◌, ◌∷◌, ◌+◌, ◌/◌, ◌%◌, ◌==◌, ◌&&◌, ◌≤◌, ◌<◌, [], ℕ, List, Bool, true, false, not, cond, length, take, refl, arith}
+use Rattle.std.specs.Prelude.{if◌then◌else◌, Option, Some, None, MatchOption, chars, nat_lt}
 use Rattle.std.specs.Char.{encode_utf8}
 use Rattle.std.specs.Fmt.{digit_glyph, digits, digits_onto}
 use Rattle.std.specs.List.{after_first, before_first, flat_map, list_any, position_or_len}
 use Rattle.std.specs.Str.{IsUtf8}
 use Rattle.std.proofs.Math.Utf8.{encode, encodes}
+use Rattle.std.proofs.lemmas.Bool.{and_from, and_parts, or_parts}
 use Rattle.std.proofs.lemmas.Bool.Decides.{nat_tests}
+use Rattle.std.proofs.lemmas.List.Folds.{list_all-append}
 use Rattle.std.proofs.lemmas.Str.{encodes-chars}
 use Rattle.ps_filetype.specs.Shown.{control_escape, hex_digit, is_printed, is_quoted, other_char, is_hidden, quoted_char, quotes, shown_byte, shown_name, shown_path, trimmed}
 use Rattle.ps_explained.specs.SlotLines.{one_line}
+use Rattle.ps_lists.proofs.Tests.{all_append, all_flat_map, none_before, none_passes}
 
 pub and_left : (x y : Bool) → (x && y) ≡ true → x ≡ true
-and_left true y h = refl
-and_left false y h = cc
+and_left x y h = (and_parts x y h).0
 
 pub and_right : (x y : Bool) → (x && y) ≡ true → y ≡ true
-and_right true y h = h
-and_right false y h = cc
+and_right x y h = (and_parts x y h).1
 
 pub and_both : (x y : Bool) → x ≡ true → y ≡ true → (x && y) ≡ true
-and_both true y h k = k
-and_both false y h k = cc
+and_both x y h k = and_from x y h k
 
 pub one_append : (xs ys : List ℕ) → one_line xs ≡ true → one_line ys ≡ true
     → one_line (xs ++ ys) ≡ true
-one_append [] ys h k = k
-one_append (x ∷ xs) ys h k =
-    and_both (not (x == 10)) (one_line (xs ++ ys)) (and_left (not (x == 10)) (one_line xs) h)
-    (one_append xs ys (and_right (not (x == 10)) (one_line xs) h) k)
+one_append xs ys h k = all_append _ xs ys h k
 
 -- a byte above 10
 pub above : (k x : ℕ) → 11 ≤ k → not ((k + x) == 10) ≡ true
 above k x h = grind (arith, nat_tests)
 
-pub one_flat_map : {X : Type 0} (f : X → List ℕ) → ((x : X) → one_line (f x) ≡ true)
-    → (xs : List X) → one_line (flat_map f xs) ≡ true
-one_flat_map f each [] = refl
-one_flat_map f each (x ∷ xs) = one_append (f x) (flat_map f xs) (each x) (one_flat_map f each xs)
-
 -- numbers
-glyph : (d : ℕ) → not (digit_glyph false d == 10) ≡ true
-glyph d = by (nat_lt d 10)
+pub glyph : (upper : Bool) (d : ℕ) → not (digit_glyph upper d == 10) ≡ true
+glyph upper d = by (nat_lt d 10) upper
   where
-    by : (t : Bool) → not ((if t then 48 + d else 87 + d) == 10) ≡ true
-    by true = above 48 d (omega arith)
-    by false = above 87 d (omega arith)
+    by : (t u : Bool) → not ((if t then 48 + d else (if u then 55 + d else 87 + d)) == 10)
+        ≡ true
+    by true u = above 48 d (omega arith)
+    by false true = above 55 d (omega arith)
+    by false false = above 87 d (omega arith)
+
+-- the two digits of a slot or an entry
+pub tens : (n : ℕ) → not ((48 + n / 10) == 10) ≡ true
+tens n = above 48 (n / 10) (omega arith)
+
+pub ones : (n : ℕ) → not ((48 + n % 10) == 10) ≡ true
+ones n = above 48 (n % 10) (omega arith)
 
 either : (t : Bool) (xs ys : List ℕ) → one_line xs ≡ true → one_line ys ≡ true
     → one_line (if t then xs else ys) ≡ true
@@ -55,12 +56,8 @@ either false xs ys h k = k
 onto : (base k n : ℕ) (acc : List ℕ) → one_line acc ≡ true
     → one_line (digits_onto k base false n acc) ≡ true
 onto base zero n acc h = h
-onto base (suc k) n acc h =
-    let more = and_both (not (digit_glyph false (n % base) == 10)) (one_line acc)
-    (glyph (n % base)) h in
-    either (n / base == 0) (digit_glyph false (n % base) ∷ acc)
-    (digits_onto k base false (n / base) (digit_glyph false (n % base) ∷ acc)) more
-    (onto base k (n / base) (digit_glyph false (n % base) ∷ acc) more)
+onto base (suc k) n acc h = let more = and_from _ _ (glyph false (n % base)) h in
+    either (n / base == 0) _ _ more (onto base k (n / base) _ more)
 
 pub one_digits : (base n : ℕ) → one_line (digits base false n) ≡ true
 unfolding digits
@@ -68,23 +65,13 @@ one_digits base n = onto base 64 n [] refl
 
 -- names
 pub one_byte : (b : ℕ) → one_line (shown_byte b) ≡ true
-one_byte b = by (is_printed b) refl
+one_byte b = by (is_printed b) (b == 10) refl refl
   where
-    escape : one_line (92 ∷ 120 ∷ hex_digit (b / 16) ∷ hex_digit (b % 16) ∷ []) ≡ true
-    escape = and_both (not (hex_digit (b / 16) == 10)) (one_line (hex_digit (b % 16) ∷ []))
-        (glyph (b / 16)) (and_both (not (hex_digit (b % 16) == 10)) true (glyph (b % 16)) refl)
-
-    is_ten : (t : Bool) → (b == 10) ≡ t → is_printed b ≡ true → not t ≡ true
-    is_ten false e printed = refl
-    is_ten true e printed = let ten : b ≡ 10 = grind (arith, nat_tests) in
-        let no : is_printed 10 ≡ true = subst (λ (n : ℕ). is_printed n ≡ true) ten printed in
-        cc
-
-    by : (t : Bool) → is_printed b ≡ t
-        → one_line (if t then b ∷ []
+    by : (t ten : Bool) → is_printed b ≡ t → (b == 10) ≡ ten → one_line (if t then b ∷ []
         else 92 ∷ 120 ∷ hex_digit (b / 16) ∷ hex_digit (b % 16) ∷ []) ≡ true
-    by true e = and_both (not (b == 10)) true (is_ten (b == 10) refl e) refl
-    by false e = escape
+    by true false e other = rw other refl
+    by true true e same = let ten : b ≡ 10 = grind (arith, nat_tests) in let no = rw ten at e in cc
+    by false ten e other = rw (glyph false (b / 16), glyph false (b % 16)) refl
 
 one_quotes : (b : Bool) → one_line (quotes b) ≡ true
 one_quotes true = refl
@@ -92,49 +79,29 @@ one_quotes false = refl
 
 pub one_name : (name : List ℕ) → one_line (shown_name name) ≡ true
 unfolding shown_name
-one_name name =
-    let mark = quotes (is_quoted (trimmed name)) in
-    let text = flat_map shown_byte (trimmed name) in
-    one_append mark (text ++ mark) (one_quotes (is_quoted (trimmed name)))
-    (one_append text mark (one_flat_map shown_byte one_byte (trimmed name))
-    (one_quotes (is_quoted (trimmed name))))
+one_name name = let mark = one_quotes (is_quoted (trimmed name)) in
+    let text = all_flat_map _ shown_byte one_byte (trimmed name) in
+    simp (list_all-append, mark, text)
 
 -- paths
 one_encode : (c : ℕ) → (c == 10) ≡ false → one_line (encode c) ≡ true
 unfolding encode
 one_encode c other = by (nat_lt c 128) (nat_lt c 2048) (nat_lt c 65536)
   where
-    rest : (bits : ℕ) (more : List ℕ) → one_line more ≡ true
-        → one_line ((128 + bits % 64) ∷ more) ≡ true
-    rest bits more h = and_both (not ((128 + bits % 64) == 10)) (one_line more)
-        (above 128 (bits % 64) (omega arith)) h
-
-    first : (k x : ℕ) (more : List ℕ) → 11 ≤ k → one_line more ≡ true
-        → one_line ((k + x) ∷ more) ≡ true
-    first k x more le h = and_both (not ((k + x) == 10)) (one_line more) (above k x le) h
-
     by : (low two three : Bool) → one_line
         (cond low (c ∷ []) (cond two ((192 + c / 64) ∷ (128 + c % 64) ∷ [])
         (cond three ((224 + c / 4096) ∷ (128 + (c / 64) % 64) ∷ (128 + c % 64) ∷ [])
         ((240 + c / 262144) ∷ (128 + (c / 4096) % 64) ∷ (128 + (c / 64) % 64) ∷ (128 + c % 64)
         ∷ [])))) ≡ true
-    by true two three = and_both (not (c == 10)) true (ap not other) refl
-    by false true three = first 192 (c / 64) ((128 + c % 64) ∷ []) (omega arith) (rest c [] refl)
-    by false false true = first 224 (c / 4096) ((128 + (c / 64) % 64) ∷ (128 + c % 64) ∷ [])
-        (omega arith) (rest (c / 64) ((128 + c % 64) ∷ []) (rest c [] refl))
-    by false false false =
-        first 240 (c / 262144) ((128 + (c / 4096) % 64) ∷ (128 + (c / 64) % 64) ∷ (128 + c % 64)
-        ∷ []) (omega arith)
-        (rest (c / 4096) ((128 + (c / 64) % 64) ∷ (128 + c % 64) ∷ [])
-        (rest (c / 64) ((128 + c % 64) ∷ []) (rest c [] refl)))
+    by true two three = rw other refl
+    by false two three = grind (arith, nat_tests)
 
 not_ten : (c : ℕ) → is_hidden c ≡ false → (c == 10) ≡ false
 not_ten c shown = by (c == 10) refl
   where
     by : (t : Bool) → (c == 10) ≡ t → t ≡ false
     by false e = refl
-    by true e = let ten : c ≡ 10 = grind (arith, nat_tests) in let no : is_hidden 10 ≡ false =
-        subst (λ (n : ℕ). is_hidden n ≡ false) ten shown in cc
+    by true e = let ten : c ≡ 10 = grind (arith, nat_tests) in let no = rw ten at shown in cc
 
 one_escape : (c : ℕ) → one_line (control_escape c) ≡ true
 one_escape c = one_append (digits 16 false c) (125 ∷ []) (one_digits 16 c) refl
@@ -167,20 +134,10 @@ unfolding quoted_char
 one_quoted c = one_letter (other_char c) (one_other c) (c == 0) (c == 9) (c == 10) (c == 13)
     (c == 34) (c == 92)
 
-or_left : (x y : Bool) → (x || y) ≡ false → x ≡ false
-or_left true y h = cc
-or_left false y h = refl
-
-or_right : (x y : Bool) → (x || y) ≡ false → y ≡ false
-or_right true y h = cc
-or_right false y h = h
-
 one_chars : (cs : List ℕ) → list_any is_hidden cs ≡ false → one_line (encodes cs) ≡ true
 one_chars [] h = refl
-one_chars (c ∷ cs) h =
-    one_append (encode c) (encodes cs) (one_encode c
-    (not_ten c (or_left (is_hidden c) (list_any is_hidden cs) h)))
-    (one_chars cs (or_right (is_hidden c) (list_any is_hidden cs) h))
+one_chars (c ∷ cs) h = let p = or_parts _ _ h in
+    one_append (encode c) (encodes cs) (one_encode c (not_ten c p.0)) (one_chars cs p.1)
 
 pub one_path : (path : List ℕ) → IsUtf8 path → one_line (shown_path path) ≡ true
 unfolding shown_path
@@ -190,38 +147,13 @@ one_path path text = by (list_any is_hidden (chars path)) refl
         → one_line (if t then 34 ∷ (flat_map quoted_char (chars path) ++ 34 ∷ []) else path)
         ≡ true
     by true e = one_append (flat_map quoted_char (chars path)) (34 ∷ [])
-        (one_flat_map quoted_char one_quoted (chars path)) refl
-    by false e = subst (λ (bs : List ℕ). one_line bs ≡ true) (encodes-chars path text)
-        (one_chars (chars path) e)
+        (all_flat_map _ quoted_char one_quoted (chars path)) refl
+    by false e = rw (encodes-chars path text) at (one_chars (chars path) e)
 
 -- up to the first byte 10, or where there is none
-first_of : (b : ℕ) (bs : List ℕ) (t : Bool) → (b == 10) ≡ t
-    → one_line (take (position_or_len (λ b. b == 10) bs) bs) ≡ true
-    → one_line (take (cond (not t) (1 + position_or_len (λ b. b == 10) bs) 0) (b ∷ bs))
-    ≡ true
-first_of b bs true e h = refl
-first_of b bs false e h =
-    let n = position_or_len (λ b. b == 10) bs in
-    let on : 1 + n ≡ suc n = omega arith in
-    subst (λ (k : ℕ). one_line (take k (b ∷ bs)) ≡ true) (sym on)
-    (and_both (not (b == 10)) (one_line (take (position_or_len (λ b. b == 10) bs) bs))
-    (ap not e) h)
-
 pub one_before : (bs : List ℕ) → one_line (take (position_or_len (λ b. b == 10) bs) bs)
     ≡ true
-one_before [] = refl
-one_before (b ∷ bs) = first_of b bs (b == 10) refl (one_before bs)
-
-none_of : (b n m : ℕ) (bs : List ℕ) (t : Bool) → cond (not t) (1 + n) 0 ≡ suc m
-    → (n ≡ m → one_line bs ≡ true) → (not t && one_line bs) ≡ true
-none_of b n m bs true e h = absurd (omega (arith, e))
-none_of b n m bs false e h = h (omega (arith, e))
-
-pub one_all : (bs : List ℕ) → position_or_len (λ b. b == 10) bs ≡ length bs
-    → one_line bs ≡ true
-one_all [] h = refl
-one_all (b ∷ bs) h = none_of b (position_or_len (λ b. b == 10) bs) (length bs) bs (b == 10) h
-    (one_all bs)
+one_before bs = none_before (λ b. b == 10) bs
 
 -- what splitting a text at the first byte 10 gives
 abbrev pub Splits : List ℕ → Option (Bor (List ℕ) × Bor (List ℕ)) → Type 0
@@ -235,12 +167,9 @@ pub split_line : (bs : List ℕ) (r : Option (Bor (List ℕ) × Bor (List ℕ)))
     (x : Bor (List ℕ) × Bor (List ℕ)) → Splits bs r → r ≡ Some x
     → one_line x.0.now ≡ true
 split_line bs None x m e = cc
-split_line bs (Some y) x m e =
-    subst (λ (o : Option (Bor (List ℕ) × Bor (List ℕ))). IfSome o
-    (λ z. one_line z.0.now ≡ true)) e
-    (subst (λ (t : List ℕ). one_line t ≡ true) (sym m.1) (one_before bs))
+split_line bs (Some y) x m e = let same : y ≡ x = cc in rw (← same, m.1) (one_before bs)
 
 pub unsplit_line : (bs : List ℕ) (r : Option (Bor (List ℕ) × Bor (List ℕ))) → Splits bs r
     → ((x : Bor (List ℕ) × Bor (List ℕ)) → r ≡ Some x → ⊥) → one_line bs ≡ true
-unsplit_line bs None m never = one_all bs m
+unsplit_line bs None m never = none_passes (λ b. b == 10) bs m
 unsplit_line bs (Some y) m never = absurd (never y refl)

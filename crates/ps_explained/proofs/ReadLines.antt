@@ -1,19 +1,21 @@
--- Where the files of a link are read without a fault, the lines of the segments as they were read are
--- those of the segments of the link.
-use Rattle.std.proofs.Common.{◌≡◌, ◌∙◌, ◌++◌, ◌∷◌, ◌<◌, [], ℕ, List, true, false, append-nil, length, map, refl, sym, ap, subst, arith}
-use Rattle.std.specs.Prelude.{◌&&◌, All, Bool, Err, None, Ok, Option, Result, Some, filter_map, if◌then◌else◌, is_some, option_and_then, slice_get}
+-- Where the files of a link are read without a fault, the lines of the segments as they were read
+-- are those of the segments of the link.
+use Rattle.std.proofs.Common.{◌≡◌, ◌∙◌, ◌∷◌, ◌<◌, [], ℕ, List, true, false, append-nil, length, map, refl, sym, ap, arith}
+use Rattle.std.specs.Prelude.{All, Bool, Err, None, Ok, Option, Result, Some, filter_map, if◌then◌else◌, option_and_then, slice_get}
 use Rattle.std.specs.List.{cons_option, find, list_any}
 use Rattle.std.specs.Option.{option_map}
+use Rattle.std.proofs.lemmas.Bool.{and_left, and_right}
 use Rattle.std.proofs.lemmas.Grind.{flat_map-append}
 use Rattle.std.proofs.lemmas.List.Elements.{All-from_get_or, All-head, All-tail}
+use Rattle.std.proofs.lemmas.List.Folds.{list_any_none}
 use Rattle.std.proofs.lemmas.List.FromFn.{get_or-range_with_len}
 use Rattle.ps_words.specs.declared.fault.Fault.{Fault}
 use Rattle.ps_words.specs.declared.fault.Reason.{Reason}
 use Rattle.ps_codefile.specs.Dictionary.{slots}
 use Rattle.ps_resolve.specs.AllFaults.{reading_fault}
 use Rattle.ps_resolve.specs.Readings.{HostFiles, opened_host, slot_fault}
-use Rattle.ps_resolve.specs.SlotReadings.{first_in, outcome_by, reading_in, request_in}
-use Rattle.ps_resolve.specs.Sources.{Segment, opened_files, order_of}
+use Rattle.ps_resolve.specs.SlotReadings.{first_in, outcome_by, reading_in}
+use Rattle.ps_resolve.specs.Sources.{Segment, opened_files}
 use Rattle.ps_resolve.specs.Added.{empty_slots, segments}
 use Rattle.ps_reading.specs.KnownSegments.{is_in_slot}
 use Rattle.ps_reading.specs.declared.reading.added.UnitReference.{UnitReference}
@@ -46,23 +48,9 @@ no_fault_of : (o : Option Segment) → is_fault (kept o) ≡ false
 no_fault_of None = refl
 no_fault_of (Some s) = refl
 
-not_first : (a b : Bool) → a ≡ false → (a && b) ≡ false
-not_first true b h = cc
-not_first false b h = refl
-
 none_pass : (p : ℕ → Bool) (xs : List ℕ) → All IsSlot xs
     → ((x : ℕ) → x < SLOTS → p x ≡ false) → list_any p xs ≡ false
-none_pass p [] in_range h = refl
-none_pass p (x ∷ xs) in_range h = grind (
-  arith,
-  h x (All-head IsSlot x xs in_range),
-  none_pass p xs (All-tail IsSlot x xs in_range) h,
-)
-
-not_both : {X : Type 0} (b c : Bool) (x : X) → c ≡ false
-    → (if b && c then None else Some x) ≡ Some x
-not_both true c x h = rw h refl
-not_both false c x h = refl
+none_pass p xs in_range h = list_any_none p xs (λ k d lt. h _ (in_range k d lt))
 
 module _ (paths : List (List ℕ)) (unread : Bool) (host : List ℕ) (libs : List (List ℕ))
     (v : HostFiles)
@@ -84,8 +72,8 @@ module _ (paths : List (List ℕ)) (unread : Bool) (host : List ℕ) (libs : Lis
 
   -- no unit of the host is refused
   not_refused : (name : List ℕ) (slot : ℕ) → slot < SLOTS → is_refused_unit v name slot ≡ false
-  not_refused name slot lt = not_first (is_fault (reading_in v slot)) _
-      (ap is_fault (reading_is slot lt) ∙ no_fault_of (found slot))
+  not_refused name slot lt = and_left (is_fault (reading_in v slot)) _
+      (rw (reading_is slot lt) (no_fault_of (found slot)))
 
   not_of_host : (name : List ℕ) → is_of_host v name ≡ false
   unfolding is_of_host
@@ -95,22 +83,17 @@ module _ (paths : List (List ℕ)) (unread : Bool) (host : List ℕ) (libs : Lis
       → seen_by_outcome host libs v slot (outcome_by v slot (kept o))
       ≡ option_map (seen_segment v) o
   unfolding seen_read
-  seen_kept slot None = ap (λ (f : Option Fault). seen_by_outcome host libs v slot
-      (if is_some f && is_some (request_in v slot) then Some (Err absent.NotLookedFor) else None))
-      none
-  seen_kept slot (Some s) =
-      not_both s.added (is_of_host v s.name) (seen_segment v s) (not_of_host s.name)
+  seen_kept slot None = rw none refl
+  seen_kept slot (Some s) = rw (and_right s.added (is_of_host v s.name) (not_of_host s.name)) refl
 
   seen_is : (slot : ℕ) → slot < SLOTS
       → seen_in host libs v slot ≡ option_map (seen_segment v) (found slot)
   unfolding seen_in
-  seen_is slot lt = ap (λ (o : Option (Result Segment Fault)).
-      seen_by_outcome host libs v slot (outcome_by v slot o)) (reading_is slot lt)
-      ∙ seen_kept slot (found slot)
+  seen_is slot lt = rw (reading_is slot lt) (seen_kept slot (found slot))
 
   -- the line of a segment that was read is that of the link
-  one : (s : Segment) → line_in_slot (seen_segment v s).slot (read_line paths unread (seen_segment v s))
-      ≡ line s ∷ []
+  one : (s : Segment) → line_in_slot (seen_segment v s).slot
+      (read_line paths unread (seen_segment v s)) ≡ line s ∷ []
   unfolding seen_segment segment_line
   one s = refl
 
@@ -119,20 +102,15 @@ module _ (paths : List (List ℕ)) (unread : Bool) (host : List ℕ) (libs : Lis
       → read_lines paths unread (cons_option (option_map (seen_segment v) o) later)
       ≡ map line (cons_option o others)
   kept_lines None later others h = h
-  kept_lines (Some s) later others h =
-      ap (λ (ls : List (List ℕ)). ls ++ read_lines paths unread later) (one s)
-      ∙ ap (λ (ls : List (List ℕ)). line s ∷ ls) h
+  kept_lines (Some s) later others h = rw (one s, h) refl
 
   lines_in_slots : (xs : List ℕ) → All IsSlot xs
       → read_lines paths unread (filter_map (seen_in host libs v) xs)
       ≡ map line (filter_map found xs)
   lines_in_slots [] in_range = refl
-  lines_in_slots (x ∷ xs) in_range =
-      ap (λ (o : Option Seen). read_lines paths unread
-      (cons_option o (filter_map (seen_in host libs v) xs)))
-      (seen_is x (All-head IsSlot x xs in_range))
-      ∙ kept_lines (found x) (filter_map (seen_in host libs v) xs) (filter_map found xs)
-      (lines_in_slots xs (All-tail IsSlot x xs in_range))
+  lines_in_slots (x ∷ xs) in_range = rw (seen_is x (All-head IsSlot x xs in_range))
+      (kept_lines (found x) (filter_map (seen_in host libs v) xs) (filter_map found xs)
+      (lines_in_slots xs (All-tail IsSlot x xs in_range)))
 
   -- a unit for which no slot is left has none
   no_line : (b : Bool) (u : UnitReference) → read_lines paths unread (cons_option (if b then None
@@ -154,13 +132,10 @@ module _ (paths : List (List ℕ)) (unread : Bool) (host : List ℕ) (libs : Lis
   all_lines : filter_map found slots ≡ all
       → read_lines paths unread (seen_of host libs v) ≡ lines_of_segments paths all (requests_in v)
   unfolding seen_of
-  all_lines are =
-      let kept_seen : List Seen = filter_map (seen_in host libs v) slots in
+  all_lines are = let kept_seen : List Seen = filter_map (seen_in host libs v) slots in
       flat_map-append (λ (x : Seen). line_in_slot x.slot (read_line paths unread x)) kept_seen
       (cons_option (unplaced v) [])
-      ∙ (ap (λ (ls : List (List ℕ)). read_lines paths unread kept_seen ++ ls) unplaced_lines
-      ∙ (append-nil (read_lines paths unread kept_seen)
-      ∙ (lines_in_slots slots all_slots ∙ ap (map line) are)))
+      ∙ rw (unplaced_lines, append-nil) (lines_in_slots slots all_slots ∙ ap (map line) are)
 
 pub read_lines_are : (paths : List (List ℕ)) (unread : Bool) (host : List ℕ) (libs : List (List ℕ))
     → reading_fault host libs ≡ None
@@ -176,12 +151,5 @@ read_lines_are paths unread host libs none = by (opened_host host libs) refl
         let are : segments_in v ≡ segments v.order v.file v.libs =
         segments_are v.order v.file v.libs fine in
         let found_all : filter_map (λ (slot : ℕ). find (is_in_slot slot) (segments_in v)) slots
-        ≡ segments_in v =
-        subst (λ (ss : List Segment). filter_map (λ (slot : ℕ). find (is_in_slot slot) ss) slots
-        ≡ ss) (sym are) (by_slot v.order v.file v.libs) in
-        let of_link : segments_in v ≡ segments (order_of host) host libs =
-        are ∙ ap (λ (x : HostFiles). segments x.order x.file x.libs) same in
-        all_lines paths unread host libs v fine found_all
-        ∙ (ap (λ (ss : List Segment). lines_of_segments paths ss (requests_in v)) of_link
-        ∙ ap (λ (x : HostFiles). lines_of_segments paths (segments (order_of host) host libs)
-        (requests_in x)) same)
+        ≡ segments_in v = rw are (by_slot v.order v.file v.libs) in
+        all_lines paths unread host libs v fine found_all ∙ rw (are, same) refl

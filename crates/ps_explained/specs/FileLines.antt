@@ -1,5 +1,6 @@
--- What a report says of each file: its number, its path, its length, and its byte order or what it is.
-use Rattle.std.specs.Prelude.{◌≡◌, ℕ, ◌+◌, ◌%◌, ◌==◌, if◌then◌else◌, List, [], ◌∷◌, ◌++◌, Ok, Err, length, true, codes, decimal}
+-- What a report says of each file: its number, its path, its length, and its byte order or what it
+-- is.
+use Rattle.std.specs.Prelude.{◌≡◌, ℕ, ◌+◌, ◌%◌, ◌==◌, if◌then◌else◌, List, [], ◌∷◌, ◌++◌, Ok, Err, length, true, false, codes, decimal}
 use Rattle.ps_words.specs.declared.order.Order.TheVariants.{Little, Big}
 use Rattle.ps_words.specs.declared.fault.Reason.{Reason}
 use Rattle.ps_words.specs.declared.fault.Reason.TheVariants.{NoHost}
@@ -12,13 +13,14 @@ use Rattle.ps_explained.specs.declared.orders.ByteOrder.{ByteOrder}
 use Rattle.ps_explained.specs.declared.orders.ByteOrder.TheVariants as order
 
 -- what a file says of its byte order: this order; none, since all its kinds are 0, though it is a
--- code file; or none, since it cannot be opened, and is of such a type
+-- code file as it ought to be; or none, since it cannot be opened and is none, but of such a type
 abbrev pub IsByteOrder : List ℕ → ByteOrder → Type 0
 IsByteOrder file (order.Known o) =
     (f : OpenedFile) × (opened_alone file ≡ Ok f) × (f.order ≡ o)
 IsByteOrder file order.NoKind = (opened_alone file ≡ Err NoHost) × (is_code_type file ≡ true)
 IsByteOrder file (order.NotOpened t) =
-    (why : Reason) × (opened_alone file ≡ Err why) × IsTypeOf file t
+    (why : Reason) × (opened_alone file ≡ Err why) × (is_code_type file ≡ false)
+    × IsTypeOf file t
 
 -- in words
 abbrev pub order_words : ByteOrder → List ℕ
@@ -37,7 +39,8 @@ file_words number path size o = codes "file " ++ (decimal number ++ (codes " "
     ++ (shown_path path ++ (codes ": " ++ (decimal size ++ (codes " bytes, "
     ++ (uneven_words size ++ order_words o)))))))
 
--- these are the lines of files, numbered from this on, each with what the file says of its byte order
+-- these are the lines of files, numbered from this on, each with what the file says of its byte
+-- order
 abbrev pub AreFileLines : List (List ℕ) → ℕ → List (List ℕ) → List ℕ → Type 0
 AreFileLines paths number [] text = text ≡ []
 AreFileLines paths number (file ∷ files) text =

@@ -3,5 +3,4 @@ pub mod SlotLines
 pub mod SegmentLines
 pub mod OverviewText
 pub mod FileLines
-pub mod Cases
-pub mod CaseValues
+pub mod SmallOverviews

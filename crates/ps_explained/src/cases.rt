@@ -1,11 +1,5 @@
 //! A fault, and what the files say of it.
-ghost use Rattle.std.specs.Prelude.{◌≡◌, ◌<◌, IfSome, length};
-ghost use Rattle.std.specs.List.{find, range_with_len};
-ghost use Rattle.std.specs.Option.{option_map};
-ghost use Rattle.ps_codefile.specs.Dictionary.{opened_alone};
-ghost use Rattle.ps_resolve.specs.Sources.{contents};
-ghost use Rattle.ps_explained.specs.Cases.{earlier_in as earlier_in_spec, earlier_of, first_host, host_entry, is_in_way as is_in_way_spec, missing_name, operand_in, record_in, records_of};
-ghost use Rattle.ps_explained.specs.CaseValues.{code_from, code_read as code_read_spec, entry_from, information_from, name_in_case, place_from, source_of};
+ghost use Rattle.std.specs.Prelude.{◌≡◌, ◌<◌, IfSome};
 
 use ps_check_segments::{NamedFiles, ReadSegment, SegmentPart, Source, in_slot};
 use ps_codefile::code_layout::NUMBERS;
@@ -21,7 +15,6 @@ use ps_words::{Fault, Name, Reason};
 fn is_in_way(dict: &Dict<'_>, reason: Reason, slot: u8, earlier: u8) -> bool
     requires slot { slot < SLOTS }
     requires earlier { earlier < SLOTS }
-    ensures { result ≡ is_in_way_spec reason dict.now.order dict.now.file slot earlier }
 {
     match (reason, dict.role(earlier)) {
         (Reason::TwoHosts, Ok(Role::Host)) => true,
@@ -35,32 +28,9 @@ fn is_in_way(dict: &Dict<'_>, reason: Reason, slot: u8, earlier: u8) -> bool
 /// The first slot before this one whose entry stands in its way.
 fn first_in_way(dict: &Dict<'_>, reason: Reason, slot: u8) -> Option<u8>
     requires { slot < SLOTS }
-    ensures first { result ≡ find (is_in_way_spec reason dict.now.order dict.now.file slot)
-        (range_with_len 0 slot) }
     ensures in_range { IfSome result (λ earlier. earlier < SLOTS) }
 {
     (0..slot).find(|earlier| is_in_way(dict, reason, slot, *earlier))
-}
-
-/// That slot, with its name.
-fn earlier_in(dict: &Dict<'_>, reason: Reason, slot: u8) -> Option<(u8, ShownName)>
-    requires { slot < SLOTS }
-    ensures { option_map (λ e. (e.0, e.1.0)) result ≡ earlier_in_spec reason dict.now slot }
-{
-    match first_in_way(dict, reason, slot) {
-        Some(earlier) => Some((earlier, ShownName(dict.entry(earlier).name))),
-        None => None,
-    }
-}
-
-/// A code, as far as it can be read.
-fn code_read(code: Result<&[u8], Reason>) -> &[u8]
-    ensures { result.now ≡ code_read_spec code.entry }
-{
-    match code {
-        Ok(code) => code,
-        Err(_) => &[],
-    }
 }
 
 /// A fault, and what of the files it is about.
@@ -113,10 +83,7 @@ impl<'c, 'a> Case<'c, 'a> {
 
     /// What the dictionary of the host says of its slot.
     /// Source: UCSD Pascal II.0 manual, code file format.
-    pub fn entry(&self) -> Option<Entry>
-        ensures { result ≡ host_entry (opened_alone self.now.inputs.now.host.now)
-            self.now.fault.slot }
-    {
+    pub(crate) fn entry(&self) -> Option<Entry> {
         match (Dict::read(self.inputs.host), self.fault.slot) {
             (Ok(dict), Some(slot)) if slot < SLOTS => Some(dict.entry(slot)),
             _ => None,
@@ -125,8 +92,6 @@ impl<'c, 'a> Case<'c, 'a> {
 
     /// The dictionary that has its segment, and the entry there.
     fn place(&self) -> Option<(Dict<'a>, u8)>
-        ensures place { result ≡ place_from self.now.inputs.now.host.now
-            (contents self.now.inputs.now.libs.now) (source_of self.now.segment) }
         ensures in_range { IfSome result (λ p. p.1 < SLOTS) }
     {
         let at = self.source()?.at;
@@ -138,30 +103,20 @@ impl<'c, 'a> Case<'c, 'a> {
 
     /// What the dictionary of its file says of its segment.
     /// Source: UCSD Pascal II.0 manual, code file format.
-    pub(crate) fn found(&self) -> Option<Entry>
-        ensures { result ≡ entry_from (place_from self.now.inputs.now.host.now
-            (contents self.now.inputs.now.libs.now) (source_of self.now.segment)) }
-    {
+    pub(crate) fn found(&self) -> Option<Entry> {
         let (dict, index) = self.place()?;
         Some(dict.entry(index))
     }
 
     /// The bytes of its file after the code of its segment.
     /// Source: UCSD Pascal II.0 manual, code file format.
-    pub(crate) fn after(&self) -> Option<&'a [u8]>
-        ensures { option_map (λ bytes. bytes.now) result ≡ information_from (place_from
-            self.now.inputs.now.host.now (contents self.now.inputs.now.libs.now)
-            (source_of self.now.segment)) }
-    {
+    pub(crate) fn after(&self) -> Option<&'a [u8]> {
         let (dict, index) = self.place()?;
         Some(dict.after(index))
     }
 
     /// The name of the segment of its slot.
-    pub fn name(&self) -> Option<Name>
-        ensures { result ≡ name_in_case self.now.segment (host_entry
-            (opened_alone self.now.inputs.now.host.now) self.now.fault.slot) }
-    {
+    pub(crate) fn name(&self) -> Option<Name> {
         match self.segment {
             Some(segment) => Some(segment.name),
             None => Some(self.entry()?.name),
@@ -170,9 +125,7 @@ impl<'c, 'a> Case<'c, 'a> {
 
     /// The record that the fault is reported with, where it can be read.
     /// Source: the published II.0 Linker source.
-    pub fn record(&self) -> Option<LinkRecord<'a>>
-        ensures { result ≡ record_in (records_of self.now.segment) self.now.fault }
-    {
+    pub(crate) fn record(&self) -> Option<LinkRecord<'a>> {
         match self.fault.rec {
             Some(rec) => self.records().record(rec),
             None => None,
@@ -180,9 +133,7 @@ impl<'c, 'a> Case<'c, 'a> {
     }
 
     /// The records of its segment, up to the first that cannot be read.
-    pub(crate) fn records(&self) -> LinkInformation<'a>
-        ensures { result ≡ records_of self.now.segment }
-    {
+    pub(crate) fn records(&self) -> LinkInformation<'a> {
         match self.segment {
             Some(segment) => segment.records.copy(),
             None => LinkInformation::none(),
@@ -190,9 +141,7 @@ impl<'c, 'a> Case<'c, 'a> {
     }
 
     /// Where its segment comes from.
-    pub(crate) fn source(&self) -> Option<Source<'a>>
-        ensures { result ≡ source_of self.now.segment }
-    {
+    pub(crate) fn source(&self) -> Option<Source<'a>> {
         match self.segment {
             Some(segment) => segment.source.ok(),
             None => None,
@@ -201,9 +150,7 @@ impl<'c, 'a> Case<'c, 'a> {
 
     /// The operand that the fault is reported with.
     /// Source: the published II.0 Linker source.
-    pub fn operand(&self) -> Option<Operand>
-        ensures { result ≡ operand_in (records_of self.now.segment) self.now.fault }
-    {
+    pub(crate) fn operand(&self) -> Option<Operand> {
         match (self.record(), self.fault.reference) {
             (Some(record), Some(reference)) => record.operand(reference),
             _ => None,
@@ -221,31 +168,23 @@ impl<'c, 'a> Case<'c, 'a> {
     }
 
     /// The first library that has a host program.
-    pub fn host_among_libraries(&self) -> Option<usize>
-        ensures { result ≡ first_host self.now.inputs.now.host.now
-            (contents self.now.inputs.now.libs.now) (length self.now.inputs.now.libs.now) }
-    {
+    pub(crate) fn host_among_libraries(&self) -> Option<usize> {
         let end = self.inputs.libs.len() + 1;
         (1..end).find(|file| is_host_type(self.inputs.bytes(*file)))
     }
 
     /// The code of its segment, as far as it can be read.
     /// Source: UCSD Pascal II.0 manual, code file format.
-    pub fn code(&self) -> &'a [u8]
-        ensures { result.now ≡ code_from (source_of self.now.segment) }
-    {
+    pub(crate) fn code(&self) -> &'a [u8] {
         match self.source() {
-            Some(source) => code_read(source.code),
-            None => &[],
+            Some(Source { code: Ok(code), .. }) => code,
+            _ => &[],
         }
     }
 
     /// The name of the unit that no library has: the one that the record of the fault requests or,
     /// without a record, that of its segment.
-    pub fn missing_unit(&self) -> Option<Name>
-        ensures { result ≡ missing_name self.now.segment
-            (record_in (records_of self.now.segment) self.now.fault) self.now.fault.rec }
-    {
+    pub(crate) fn missing_unit(&self) -> Option<Name> {
         match self.fault.rec {
             Some(_) => Some(self.record()?.name),
             None => Some(self.segment?.name),
@@ -253,25 +192,26 @@ impl<'c, 'a> Case<'c, 'a> {
     }
 
     /// The earlier slot that has a host program, or a unit of the name, and the name of its segment.
-    pub fn earlier_entry(&self) -> Option<(u8, ShownName)>
-        ensures { option_map (λ e. (e.0, e.1.0)) result ≡ earlier_of self.now.fault.reason
-            (opened_alone self.now.inputs.now.host.now) self.now.fault.slot }
-    {
+    pub(crate) fn earlier_entry(&self) -> Option<(u8, ShownName)> {
         match (Dict::read(self.inputs.host), self.fault.slot) {
-            (Ok(dict), Some(slot)) if slot < SLOTS => earlier_in(&dict, self.fault.reason, slot),
+            (Ok(dict), Some(slot)) if slot < SLOTS => {
+                let earlier = first_in_way(&dict, self.fault.reason, slot)?;
+                Some((earlier, ShownName(dict.entry(earlier).name)))
+            }
             _ => None,
         }
     }
 
     /// The first thing that is wrong with the procedures of the code.
     /// Source: UCSD Pascal II.0 manual, code file format.
-    pub fn procedure_fault(&self) -> Option<ProcedureFault> {
-        let source = self.source()?;
-        let code = source.code.ok()?;
-        if code.len() < NUMBERS {
-            return None;
+    pub(crate) fn procedure_fault(&self) -> Option<ProcedureFault> {
+        let code = self.code();
+        match (self.segment, self.source()) {
+            (Some(segment), Some(source)) if NUMBERS <= code.len() => {
+                let is_host = matches!(segment.part, SegmentPart::Host);
+                ProcedureDictionary::read_or_fault(source.order, code, is_host).err()
+            }
+            _ => None,
         }
-        let is_host = matches!(self.segment?.part, SegmentPart::Host);
-        ProcedureDictionary::read_or_fault(source.order, code, is_host).err()
     }
 }

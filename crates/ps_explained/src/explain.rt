@@ -23,17 +23,29 @@ pub struct Explanation<'c, 'a>(
 impl fmt::Display for Explanation<'_, '_> {
     fn fmt<W: Write>(&self, f: &mut Formatter<W>) -> fmt::Result {
         let case = &self.0;
-        writeln!(f, "  file {}", ShownPath(case.inputs.path(case.fault.file)))?;
-        if case.is_in_no_code_file() {
-            writeln!(f, "  it is {}", case.inputs.file_type(0))?;
-            return advice::write_advice(f, case);
-        }
-        write_slot(f, case)?;
-        write_record(f, case)?;
-        references::write_reference(f, case)?;
-        write_details(f, case)?;
+        write_file(f, case)?;
+        write_parts(f, case)?;
         advice::write_advice(f, case)
     }
+}
+
+/// The file.
+fn write_file<W: Write>(f: &mut Formatter<W>, case: &Case<'_, '_>) -> fmt::Result {
+    let path = ShownPath(case.inputs.path(case.fault.file));
+    writeln!(f, "  file {path}")
+}
+
+/// The slot, the record and the reference by their names, and what the number says of them; or what the
+/// file is, where nothing is said of its segments.
+fn write_parts<W: Write>(f: &mut Formatter<W>, case: &Case<'_, '_>) -> fmt::Result {
+    if case.is_in_no_code_file() {
+        let file_type = case.inputs.file_type(0);
+        return writeln!(f, "  it is {file_type}");
+    }
+    write_slot(f, case)?;
+    write_record(f, case)?;
+    references::write_reference(f, case)?;
+    write_details(f, case)
 }
 
 /// The slot with the name of its segment.

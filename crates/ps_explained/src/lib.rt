@@ -6,6 +6,7 @@
 mod cases;
 mod explain;
 mod file_lines;
+mod laws;
 mod orders;
 mod overview;
 mod passed_over;
@@ -17,6 +18,7 @@ mod slot_lines;
 
 pub use cases::Case;
 pub use explain::Explanation;
+pub use laws::texts_of_segments;
 pub use orders::ByteOrder;
 pub use overview::{Overview, overview_of};
 pub use sentences::{SENTENCE_LEN, meaning_of, remedy_of};

@@ -1,11 +1,10 @@
 //! What a file says of its byte order.
-ghost use Rattle.std.specs.Prelude.{◌≡◌, Err, Some};
-ghost use Rattle.ps_codefile.specs.Dictionary.{opened_alone};
+ghost use Rattle.std.specs.Prelude.{Some};
 ghost use Rattle.ps_explained.specs.FileLines.{IsByteOrder, order_words};
 
 use ps_codefile::Dict;
 use ps_filetype::FileType;
-use ps_words::{Order, Reason};
+use ps_words::Order;
 use std::fmt::{self, Display, Formatter};
 
 /// What a file says of its byte order, or what it is where it cannot be opened. Its text is a phrase,
@@ -15,20 +14,8 @@ pub enum ByteOrder {
     Known(Order),
     /// All kinds of the code file are 0.
     NoKind,
-    /// The file cannot be opened, and is this.
+    /// The file cannot be opened and is no code file, but this.
     NotOpened(FileType),
-}
-
-/// The byte order of a file that cannot be opened for this reason.
-fn unopened(file: &[u8], reason: Reason) -> ByteOrder
-    requires { opened_alone file.now ≡ Err reason }
-    ensures { IsByteOrder file.now result }
-{
-    let file_type = FileType::of(file);
-    match reason {
-        Reason::NoHost if file_type.is_code() => ByteOrder::NoKind,
-        _ => ByteOrder::NotOpened(file_type),
-    }
 }
 
 impl ByteOrder {
@@ -38,7 +25,14 @@ impl ByteOrder {
     {
         match Dict::read(file) {
             Ok(dict) => ByteOrder::Known(dict.order()),
-            Err(reason) => unopened(file, reason),
+            Err(_) => {
+                let file_type = FileType::of(file);
+                if file_type.is_code() {
+                    ByteOrder::NoKind
+                } else {
+                    ByteOrder::NotOpened(file_type)
+                }
+            }
         }
     }
 }

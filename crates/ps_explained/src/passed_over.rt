@@ -158,7 +158,6 @@ fn entry_in(inputs: &NamedFiles<'_>, name: &Name, file: usize) -> Option<(usize,
 }
 
 /// The first entry of a library that is filled and has this name.
-#[tactic(auto, unfolding(crate::specs::OverviewText::named_entry))]
 fn named_entry(inputs: &NamedFiles<'_>, name: &Name, file: usize) -> Option<u8>
     ensures { result ≡ named_entry_spec inputs.now.host.now (contents inputs.now.libs.now)
         name.now file }

@@ -1,10 +1,4 @@
 //! What the files say of the reference that a fault is reported with.
-ghost use Rattle.std.specs.Prelude.{◌≡◌, false, map, unwrap_or};
-ghost use Rattle.ps_linkinfo.specs.RecordCounts.{is_private_reference};
-ghost use Rattle.ps_check_segments.specs.Seen.{host_records, seen};
-ghost use Rattle.ps_explained.specs.CaseValues.{code_from, covering_in, defined_value_in, displacement_in, operand_bytes, public_value as public_value_spec, source_of, value_in as value_in_spec};
-ghost use Rattle.ps_explained.specs.Cases.{records_of};
-
 use crate::cases::Case;
 use ps_check_segments::host_of;
 use ps_linkinfo::{Body, LinkInformation, LinkRecord, Operand, Sort};
@@ -12,42 +6,26 @@ use ps_pcode::procedures_of;
 use ps_resolve::{RecordAt, ReferenceAt, SegmentAt, covering_reference};
 use ps_words::{Fault, Name, get_big};
 
-/// The value by which the body of a record defines a public variable.
-fn public_value(body: &Body<'_>) -> Option<u16>
-    ensures { result ≡ public_value_spec body.now }
-{
-    match body {
-        Body::PublDef(value) => Some(*value),
-        _ => None,
-    }
-}
-
 /// The value by which the first of these records that does defines a public variable of the name.
-fn value_in(records: &LinkInformation<'_>, name: &Name) -> Option<u16>
-    ensures { result ≡ value_in_spec records.now name.now }
-{
-    match records.find(name, Sort::Variable) {
-        Some((_, record)) => public_value(&record.body),
-        None => None,
+fn value_in(records: &LinkInformation<'_>, name: &Name) -> Option<u16> {
+    let (_, record) = records.find(name, Sort::Variable)?;
+    match record.body {
+        Body::PublDef(value) => Some(value),
+        _ => None,
     }
 }
 
 impl<'a> Case<'_, 'a> {
     /// The bytes of an operand, as far as the code has them.
     /// Source: the published II.0 Linker source.
-    pub fn bytes_of(&self, operand: Operand) -> &'a [u8]
-        ensures { result.now ≡ operand_bytes (code_from (source_of self.now.segment)) operand }
-    {
+    pub(crate) fn bytes_of(&self, operand: Operand) -> &'a [u8] {
         let rest = self.code().get(usize::from(operand.place)..).unwrap_or(&[]);
         rest.get(..usize::from(operand.width)).unwrap_or(rest)
     }
 
     /// The displacement in an operand, in words; 0 where the code does not have it.
     /// Source: UCSD Pascal II.0 manual, code file format.
-    pub fn displacement_of(&self, operand: Operand) -> u16
-        ensures { result ≡ displacement_in
-            (operand_bytes (code_from (source_of self.now.segment)) operand) }
-    {
+    pub(crate) fn displacement_of(&self, operand: Operand) -> u16 {
         let bytes = self.bytes_of(operand);
         if 2 <= bytes.len() {
             get_big(bytes, 0)
@@ -58,7 +36,7 @@ impl<'a> Case<'_, 'a> {
 
     /// The first procedure, from 1, whose table has the first or the last byte of an operand.
     /// Source: UCSD Pascal II.0 manual, code file format.
-    pub fn table_with(&self, operand: Operand) -> Option<usize> {
+    pub(crate) fn table_with(&self, operand: Operand) -> Option<usize> {
         let procedures = procedures_of(self.source()?.order, self.code())?;
         let first = usize::from(operand.place);
         let last = (first + usize::from(operand.width)).saturating_sub(1);
@@ -66,9 +44,7 @@ impl<'a> Case<'_, 'a> {
     }
 
     /// The earlier reference that covers a byte of this one, and its record.
-    pub fn earlier_reference(&self) -> Option<(ReferenceAt, LinkRecord<'a>)>
-        ensures { result ≡ covering_in (records_of self.now.segment) self.now.fault }
-    {
+    pub(crate) fn earlier_reference(&self) -> Option<(ReferenceAt, LinkRecord<'a>)> {
         let Fault {
             file,
             slot: Some(slot),
@@ -90,10 +66,7 @@ impl<'a> Case<'_, 'a> {
     /// The value of the references of a record: the base offset of its private variable, or the
     /// value of the host's definition of its name; 0 where there is none.
     /// Source: the published II.0 Linker source.
-    pub fn value_of(&self, record: &LinkRecord<'_>) -> u64
-        ensures { is_private_reference «record».now.body ≡ false → result ≡ unwrap_or
-            (defined_value_in (host_records (map seen self.now.list.now)) «record».now.name) 0 }
-    {
+    pub(crate) fn value_of(&self, record: &LinkRecord<'_>) -> u64 {
         match record.body {
             Body::PrivRef { .. } => self.base_offset(),
             _ => u64::from(self.defined_value(&record.name).unwrap_or(0)),
@@ -120,9 +93,7 @@ impl<'a> Case<'_, 'a> {
     }
 
     /// The value of the host's definition of the name.
-    fn defined_value(&self, name: &Name) -> Option<u16>
-        ensures { result ≡ defined_value_in (host_records (map seen self.now.list.now)) name.now }
-    {
+    fn defined_value(&self, name: &Name) -> Option<u16> {
         match host_of(self.list) {
             Some(host) => value_in(&host.records, name),
             None => None,

@@ -1,9 +1,8 @@
-use Rattle.std.proofs.Common.{◌≡◌, ◌<◌, ◌≤◌, ◌+◌, ◌∷◌, [], ℕ, List, Bor, append-nil, ap, arith, drop, length, refl, string_bytes, subst}
+use Rattle.std.proofs.Common.{◌<◌, ◌≤◌, ◌∷◌, [], ℕ, List, Bor, append-nil, arith, length, refl, string_bytes}
 use Rattle.std.proofs.lemmas.Bool.Decides.{nat_tests}
 use Rattle.std.proofs.lemmas.List.{drop_all}
 use Rattle.ps_resolve.specs.Sources.{contents}
-use Rattle.ps_explained.specs.FileLines.{AreFileLines}
-use Rattle.ps_explained.proofs.FileLines.{FilesLeft, line_more_at}
+use Rattle.ps_explained.proofs.FileLines.{line_more_at}
 use Rattle.ps_explained.proofs.SlotLines.{adds_then_none}
 use Rattle.ps_explained.proofs.file_lines.file_lines.Goals as goal
 
@@ -27,14 +26,7 @@ loop-index-preserved g c =
 
 pub returns-clause-lines : goal.returns-clause-lines
 returns-clause-lines g c =
-    let i = c.args.inputs.now in
-    let libs : List (Bor (List ℕ)) = i.libs.now in
-    let paths : List (List ℕ) = i.host_path.now ∷ contents i.paths.now in
-    let files : List (List ℕ) = i.host.now ∷ contents libs in
-    let text = string_bytes c.loop-index.text in
+    let libs : List (Bor (List ℕ)) = c.args.inputs.now.libs.now in
     let over : length libs ≤ c.loop-index.index = grind (arith, nat_tests) in
-    let none : contents (drop c.loop-index.index libs) ≡ [] =
-    ap contents (drop_all c.loop-index.index libs over) in
-    let left = subst (λ (fs : List (List ℕ)). FilesLeft paths files (c.loop-index.index + 1) fs text)
-    none c.loop-index.invariant.lines in
-    subst (λ (t : List ℕ). AreFileLines paths 0 files t) (append-nil text) (left.rest [] refl)
+    let left = rw (drop_all c.loop-index.index libs over) at c.loop-index.invariant.lines in
+    rw append-nil at (left.rest [] refl)

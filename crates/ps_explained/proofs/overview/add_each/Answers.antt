@@ -1,45 +1,38 @@
-use Rattle.std.proofs.Common.{◌≡◌, ◌∙◌, ◌++◌, ◌∷◌, [], List, ℕ, ap, append_assoc, string_bytes, subst}
+use Rattle.std.proofs.Common.{◌≡◌, ◌∙◌, ◌++◌, ◌∷◌, List, ℕ, ap, append_assoc, map, string_bytes, take}
 use Rattle.ps_resolve.specs.Sources.{contents}
-use Rattle.ps_check_segments.specs.Seen.{seen}
+use Rattle.ps_check_segments.specs.Seen.{Seen, seen}
 use Rattle.ps_check_segments.specs.declared.segments.ReadSegment.{ReadSegment}
-use Rattle.ps_explained.specs.OverviewText.{first_and_more, later_line, passed_over, segment_text}
-use Rattle.ps_explained.specs.SegmentLines.{line_in_slot, read_line}
-use Rattle.ps_explained.specs.SlotLines.{AddsSlotLines}
-use Rattle.ps_explained.proofs.LinesOfSegments.{adds_next_read}
-use Rattle.ps_explained.proofs.OverviewTexts.{next_text}
-use Rattle.ps_explained.proofs.SlotLines.{adds_then_none}
+use Rattle.ps_explained.specs.OverviewText.{segment_text, segment_texts}
+use Rattle.ps_explained.specs.SegmentLines.{line_in_slot, read_line, read_lines}
+use Rattle.ps_lists.proofs.Tests.{flat_map_more}
+use Rattle.ps_explained.proofs.SlotLines.{adds_then, adds_then_none}
 use Rattle.ps_explained.proofs.overview.add_each.Goals as goal
 
 pub loop-segment-preserved : goal.loop-segment-preserved
 unfolding segment_text
 loop-segment-preserved g c =
-    let host = c.args.inputs.now.host.now in
-    let libs : List (List ℕ) = contents c.args.inputs.now.libs.now in
-    let paths : List (List ℕ) = c.args.inputs.now.host_path.now
-    ∷ contents c.args.inputs.now.paths.now in
+    let i = c.args.inputs.now in
+    let paths : List (List ℕ) = i.host_path.now ∷ contents i.paths.now in
+    let text_of = segment_text paths i.host.now (contents i.libs.now) c.args.unread in
+    let lines_of = λ (x : Seen). line_in_slot x.slot (read_line paths c.args.unread x) in
     let old = string_bytes c.args.text.now in
     let before = string_bytes c.loop-segment.text in
-    let told = string_bytes c.add_segment.new.text in
     let after = string_bytes c.add_later_of.new.text in
     let s : ReadSegment = c.segment-item.result in
-    let line = read_line paths c.args.unread (seen s) in
-    let later = later_line paths
-    (first_and_more (passed_over host libs s.name (seen s).origin)) in
-    let one = adds_then_none before told after (line_in_slot s.slot line)
+    let one = adds_then_none before (string_bytes c.add_segment.new.text) after (lines_of (seen s))
     c.in_ok-add_segment.ensures.lines c.in_ok-add_later_of.ensures.lines in
-    let both : after ≡ before ++ segment_text paths host libs c.args.unread (seen s) =
-    c.in_ok-add_later_of.ensures.text
-    ∙ (ap (λ (t : List ℕ). t ++ later) c.in_ok-add_segment.ensures.text
-    ∙ append_assoc before (line ++ 10 ∷ []) later) in
+    let both : after ≡ before ++ text_of (seen s) =
+    rw (c.in_ok-add_later_of.ensures.text, c.in_ok-add_segment.ensures.text) (simp append_assoc) in
+    let list : List ReadSegment = c.args.list.now in
+    let k = c.loop-segment.segment-index in
     record {
-      lines = adds_next_read paths c.args.unread old before after c.args.list.now
-          c.loop-segment.segment-index _ c.loop-segment-test.true c.loop-segment.invariant.lines
-          (subst (λ (x : ReadSegment). AddsSlotLines before
-          (line_in_slot x.slot (read_line paths c.args.unread (seen x))) after) c.segment-item.is
-          one);
-      text = next_text (segment_text paths host libs c.args.unread) old before after
-          c.args.list.now c.loop-segment.segment-index _ c.loop-segment-test.true
-          c.loop-segment.invariant.text
-          (subst (λ (x : ReadSegment). after
-          ≡ before ++ segment_text paths host libs c.args.unread (seen x)) c.segment-item.is both);
+      lines = rw (flat_map_more lines_of seen list k s c.loop-segment-test.true
+          c.segment-item.is)
+          (adds_then old before after (read_lines paths c.args.unread (map seen (take k list)))
+          (lines_of (seen s)) c.loop-segment.invariant.lines one);
+      text = rw (flat_map_more text_of seen list k s c.loop-segment-test.true
+          c.segment-item.is)
+          (both ∙ ap (λ (t : List ℕ). t ++ text_of (seen s)) c.loop-segment.invariant.text
+          ∙ append_assoc old (segment_texts paths i.host.now (contents i.libs.now) c.args.unread
+          (map seen (take k list))) (text_of (seen s)));
     }
