@@ -1,7 +1,7 @@
 -- The lists of files, one after another.
-use Rattle.std.proofs.Common.{◌≡◌, ◌≤◌, ◌<◌, ◌⊎◌, ◌+◌, ◌++◌, ◌∷◌, [], ℕ, Bool, Bor, List, ap, get_or, true, false, inl, inr, drop, length, refl, sym, subst, arith}
-use Rattle.std.specs.Prelude.{codes, min, nat_le}
-use Rattle.std.proofs.lemmas.Bool.Decides.{nat_tests}
+use Rattle.std.proofs.Common.{◌≡◌, ◌≤◌, ◌<◌, ◌⊎◌, ◌+◌, ◌++◌, ◌∷◌, [], ℕ, Bool, Bor, List, get_or, inl, inr, drop, length, refl, arith}
+use Rattle.std.specs.Prelude.{codes, min}
+use Rattle.std.proofs.lemmas.Bool.{cases_lt}
 use Rattle.std.proofs.lemmas.List.{append_assoc, drop_all, drop_more}
 use Rattle.ps_resolve.specs.Sources.{contents}
 use Rattle.ps_writing.specs.JsonText.{line_end}
@@ -31,10 +31,9 @@ module _ (how : ListForm) (all_paths all_files : List (List ℕ)) where
       → IsPhrase file one.phrase → FilesLeft (path ∷ paths) (file ∷ files) before
       → FilesLeft paths files (before ++ one ∷ [])
   listed_more path file paths files one before of_how at_path of_file said so_far = record {
-    rest = λ more are.
-        subst (λ (ls : List Listed). AreListed how all_paths all_files ls)
-        (sym (append_assoc before (one ∷ []) more))
-        (so_far.rest (one ∷ more) (one.phrase, more, said, are, rw (of_how, at_path, of_file) refl));
+    rest = λ more are. rw append_assoc
+        (so_far.rest (one ∷ more)
+        (one.phrase, more, said, are, rw (of_how, at_path, of_file) refl));
   }
 
   -- one file more is listed: the one at this index among those that are lent
@@ -47,24 +46,18 @@ module _ (how : ListForm) (all_paths all_files : List (List ℕ)) where
       → FilesLeft (contents (drop (i + 1) paths)) (contents (drop (i + 1) libs))
       (before ++ one ∷ [])
   listed_more_at paths libs i none one before of_how at_path of_file said in_paths in_libs so_far =
-      let more_paths = ap contents (drop_more paths i none in_paths) in
-      let more_files = ap contents (drop_more libs i none in_libs) in
-      let of_path = subst (λ (ps : List (List ℕ)). FilesLeft ps (contents (drop i libs)) before)
-      more_paths so_far in
-      let here = subst (λ (fs : List (List ℕ)). FilesLeft
-      ((get_or paths i none).now ∷ contents (drop (i + 1) paths)) fs before) more_files of_path in
       listed_more (get_or paths i none).now (get_or libs i none).now
       (contents (drop (i + 1) paths)) (contents (drop (i + 1) libs)) one before of_how at_path
-      of_file said here
+      of_file said
+      (rw (drop_more paths i none in_paths, drop_more libs i none in_libs) at so_far)
 
 -- one of two lists ends where the shorter one does
 pub one_ends : {X Y : Type 0} (xs : List X) (ys : List Y) (n : ℕ)
     → min (length xs) (length ys) ≤ n → (drop n xs ≡ []) ⊎ (drop n ys ≡ [])
-one_ends xs ys n short = by (nat_le (length xs) n) refl
-  where
-    by : (b : Bool) → nat_le (length xs) n ≡ b → (drop n xs ≡ []) ⊎ (drop n ys ≡ [])
-    by true le = inl (drop_all n xs (grind (arith, nat_tests)))
-    by false gt = inr (drop_all n ys (grind (arith, nat_tests)))
+one_ends xs ys n short = elim (cases_lt n (length xs)) [
+  | inl gt ↦ inr (drop_all n ys (omega arith))
+  | inr le ↦ inl (drop_all n xs le)
+]
 
 -- no file is listed where no path or no file is left
 pub none_listed : (how : ListForm) (paths files : List (List ℕ)) → (paths ≡ []) ⊎ (files ≡ [])

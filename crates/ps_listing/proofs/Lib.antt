@@ -1,6 +1,7 @@
 pub mod Vocabulary
 pub mod Rows
 pub mod LinkedEntries
-pub mod FoundUnits
+pub mod ListLemmas
 pub mod FilesListed
 pub mod PhraseWords
+pub mod SmallLists

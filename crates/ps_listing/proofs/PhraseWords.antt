@@ -1,6 +1,5 @@
 -- The phrase for what a file is.
-use Rattle.std.proofs.Common.{◌≡◌, ◌∙◌, ℕ, List, [], true, ap, length, sym}
-use Rattle.std.specs.Prelude.{◌==◌}
+use Rattle.std.proofs.Common.{◌≡◌, ◌∙◌, ℕ, List, [], true, sym}
 use Rattle.ps_filetype.specs.TypeWords.{IsTypeOf, is_code}
 use Rattle.ps_filetype.specs.declared.file_type.FileType.{FileType}
 use Rattle.ps_listing.specs.Phrases.{IsPhrase}
@@ -9,6 +8,6 @@ use Rattle.ps_listing.specs.Phrases.{IsPhrase}
 pub code_phrase : (file phrase : List ℕ) (t : FileType) → IsTypeOf file t → is_code t ≡ true
     → phrase ≡ [] → IsPhrase file phrase
 code_phrase file phrase t typed code none = record {
-  empty = ap (λ (p : List ℕ). length p == 0) none ∙ (sym code ∙ typed);
-  words = λ other. let both = sym code ∙ (typed ∙ other) in cc;
+  empty = rw none (sym code ∙ typed);
+  words = λ other. let both = sym code ∙ typed ∙ other in cc;
 }

@@ -3,3 +3,4 @@ pub mod ListText
 pub mod LoneText
 pub mod Phrases
 pub mod FileLists
+pub mod SmallLists

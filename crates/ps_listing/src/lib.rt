@@ -5,6 +5,7 @@
 
 mod by_itself;
 mod escapes;
+mod laws;
 mod listed_file;
 mod lists;
 mod lone;
@@ -13,6 +14,7 @@ mod phrases;
 mod segments;
 mod several;
 
+pub use laws::lines_of_a_file;
 pub use lists::{ListForm, ListItem, ListedFile, Lists, UnreadItem};
 pub use lone::{LoneUnit, lone_units};
 pub use several::has_host_among;

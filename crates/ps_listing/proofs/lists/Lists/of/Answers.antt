@@ -1,8 +1,8 @@
-use Rattle.std.proofs.Common.{◌≡◌, ◌≤◌, ◌<◌, ◌⊎◌, ◌∷◌, ◌++◌, ◌+◌, [], ℕ, List, Bor, append-nil, inl, inr, drop, length, ap, rules, sym, subst, arith}
+use Rattle.std.proofs.Common.{◌≡◌, ◌≤◌, ◌<◌, ◌⊎◌, ◌∷◌, ◌++◌, [], ℕ, List, Bor, append-nil, inl, inr, drop, length, ap, rules, arith}
 use Rattle.std.specs.Prelude.{min}
 use Rattle.ps_resolve.specs.Sources.{contents}
-use Rattle.ps_listing.specs.FileLists.{AreListed, Listed}
-use Rattle.ps_listing.proofs.FilesListed.{FilesLeft, listed_more_at, none_listed, one_ends}
+use Rattle.ps_listing.specs.FileLists.{Listed}
+use Rattle.ps_listing.proofs.FilesListed.{listed_more_at, none_listed, one_ends}
 use Rattle.ps_listing.proofs.lists.Lists.of.Goals as goal
 
 pub loop-index-preserved : goal.loop-index-preserved
@@ -22,23 +22,19 @@ loop-index-preserved g c =
     c.in_ok-of-2.ensures.phrase in_paths in_libs
     c.loop-index.invariant in
     let items : c.push-in-loop-index.new.self.items ≡ before ++ one ∷ [] = search rules in
-    subst (λ (ls : List Listed). FilesLeft c.args.how all_paths all_files
-    (contents (drop (i + 1) paths)) (contents (drop (i + 1) libs)) ls) (sym items) more
+    rw items more
 
 pub returns-clause-files : goal.returns-clause-files
 returns-clause-files g c =
     let paths : List (Bor (List ℕ)) = c.args.paths.now in
     let libs : List (Bor (List ℕ)) = c.args.libs.now in
     let i : ℕ = c.loop-index.index in
-    let all_paths = c.args.host_path.now ∷ contents paths in
-    let all_files = c.args.host.now ∷ contents libs in
     let short : min (length paths) (length libs) ≤ i =
     omega (arith, c.loop-index-test.false, c.min-count.ensures) in
     let ended : (drop i paths ≡ []) ⊎ (drop i libs ≡ []) = one_ends paths libs i short in
     let none = none_listed c.args.how (contents (drop i paths)) (contents (drop i libs))
     (of_texts ended) in
-    subst (λ (ls : List Listed). AreListed c.args.how all_paths all_files ls)
-    (append-nil c.loop-index.files.items) (c.loop-index.invariant.rest [] none)
+    rw append-nil at (c.loop-index.invariant.rest [] none)
   where
     of_texts : {ps fs : List (Bor (List ℕ))} → (ps ≡ []) ⊎ (fs ≡ [])
         → (contents ps ≡ []) ⊎ (contents fs ≡ [])
