@@ -5,7 +5,7 @@ use Rattle.std.proofs.lemmas.List.Elements.{All-take}
 use Rattle.ps_codefile.specs.Dictionary.{information_of}
 use Rattle.ps_linkinfo.specs.Records.{AreSpelled, Spells, Stops, refs_of, size_of}
 use Rattle.ps_reading.proofs.EachSegment.{IsMade, added_made, at_slot, each_slot, find_has, own_made}
-use Rattle.ps_reading.proofs.Items.{In, all_in, all_items, of_all}
+use Rattle.ps_lists.proofs.Items.{In, all_in, all_items, of_all}
 use Rattle.ps_reading.proofs.OfRounds.{segment_named}
 use Rattle.ps_reading.specs.Added.{requested_units, segments}
 use Rattle.ps_reading.specs.Sources.{host_of, order_of, own_segments, records_of}

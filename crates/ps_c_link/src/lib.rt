@@ -8,6 +8,7 @@ mod answer;
 mod first_name;
 mod libraries;
 mod linking;
+mod numbers;
 mod outcome;
 mod refusal_law;
 mod room;
@@ -18,5 +19,6 @@ pub use answer::{
 pub use first_name::host_first;
 pub use libraries::{FEW_LIBRARIES, LIBRARIES_IN_PLACE, Parts, add_up, split};
 pub use linking::{LINKED_MAX, link};
+pub use numbers::numbers_of_the_calls;
 pub use outcome::{CallError, Done, NotDone, TooSmall, Unput, Verdict, WrongInputs};
 pub use refusal_law::{faults_have_indexes_of_their_files, refusals_tell_their_faults};

@@ -7,8 +7,8 @@ use Rattle.ps_linkfile.specs.ShowText.{order_fault, show_fault}
 use Rattle.ps_linkfile.specs.declared.unmade.Refusal.{Refusal}
 use Rattle.ps_linkfile.specs.declared.unmade.Unmade.{Unmade}
 use Rattle.ps_linkfile.specs.declared.unmade.Unmade.TheVariants.{Refused, Memory}
-use Rattle.ps_report.specs.Reported.{Reported}
-use Rattle.ps_report.specs.Reports.{IsReport, warnings_of_files}
+use Rattle.ps_report.specs.Reported.{Reported, warning_count}
+use Rattle.ps_report.specs.Reports.{IsReport}
 use Rattle.ps_writing.specs.declared.rows.Form.{Form}
 use Rattle.ps_texts.specs.Kinds.{needs_names}
 use Rattle.ps_words.specs.FaultPlaces.{in_file}
@@ -57,7 +57,7 @@ module _ (what : ReportText) (form : Form) (names : List (List ℕ)) (host : Lis
   is_made : IsMade (kind.Named (of_named.OfReport what form)) names host libs
       (report_bytes what form r)
   is_made = (
-    report_status what false (warnings_of_files names host libs) r.verdict,
+    report_status what false (warning_count r.findings) r.verdict,
     (r, is, refl, refl),
   )
 

@@ -10,9 +10,11 @@ mod fault_text;
 mod file_names;
 pub mod kinds;
 mod making;
+mod numbers;
 mod printing;
 mod room;
 
 pub use fault_text::{FAULT_TEXT_MAX, put_fault};
 pub use kinds::text_kind;
+pub use numbers::numbers_of_the_texts;
 pub use printing::text;

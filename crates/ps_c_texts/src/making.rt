@@ -104,8 +104,7 @@ fn report_on<'a, A: Allocator + Copy>(
     ensures { IfOk result (λ report. IsReport (paths_in files.now) files.now.host.now
         (contents files.now.libs.now) (reported report)) }
 {
-    let report = check(alloc, files.host_path, files.paths, files.host, files.libs)?;
-    Ok(report)
+    check(alloc, files)
 }
 
 /// Puts what is printed of a report on these files in the room. The verdict that is told, and the

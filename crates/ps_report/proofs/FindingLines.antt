@@ -1,12 +1,13 @@
 -- The lines of a report to which a line is added that is a warning's, or none's.
-use Rattle.std.proofs.Common.{◌≡◌, ◌∙◌, ◌+◌, ◌++◌, ◌∷◌, ◌==◌, ◌&&◌, ◌||◌, [], ℕ, List, Bool, true, false, not, cond, append-nil, length, ◌<◌, Bor, refl, sym, subst, ap, arith, get_or, codes}
+use Rattle.std.proofs.Common.{◌≡◌, ◌∙◌, ◌+◌, ◌++◌, ◌∷◌, ◌==◌, ◌&&◌, ◌||◌, [], ℕ, List, Bool, true, false, not, cond, append-nil, length, ◌<◌, Bor, refl, sym, subst, ap, arith, get_or, codes, inl, inr}
 use Rattle.std.specs.Prelude.{if◌then◌else◌, Option, Some, None, IfSome}
 use Rattle.std.specs.List.{after_first, before_first, filter, flat_map, list_all, position_or_len}
+use Rattle.std.proofs.lemmas.Bool.{and_parts, cases_Bool, not-true, or_parts}
 use Rattle.std.proofs.lemmas.Bool.Decides.{nat_tests}
 use Rattle.std.proofs.lemmas.List.{append_assoc}
 use Rattle.std.proofs.lemmas.List.Sums.{passes_at_first, split_at_first}
 use Rattle.ps_explained.specs.SlotLines.{AddsSlotLines, indent, is_slot_line, lines_of, one_line, slot_lines, with_first}
-use Rattle.ps_explained.proofs.OneLine.{Splits, and_both, and_left, and_right, one_append, one_before}
+use Rattle.ps_explained.proofs.OneLine.{Splits, one_append, one_before}
 use Rattle.ps_explained.proofs.SlotLines.{adds_line, adds_no_line, adds_then, adds_then_none, line_ends}
 use Rattle.ps_warnings.specs.Weights.{is_certain_weight, weight_of, weight_word}
 use Rattle.ps_warnings.specs.declared.weight.Weight.{Weight}
@@ -17,18 +18,11 @@ use Rattle.ps_report.specs.declared.lines.Part.{Part}
 use Rattle.ps_report.specs.declared.lines.Part.TheVariants.{Account, Segments}
 
 -- a last line that has no end
-more_alone : (b : ℕ) (line : List ℕ) (t : Bool) → (b == 10) ≡ t → not (b == 10) ≡ true
-    → (if t then [] ∷ lines_of line else with_first b (lines_of line))
-    ≡ with_first b (lines_of line)
-more_alone b line true e other = let no = ap not (sym e) ∙ other in cc
-more_alone b line false e other = refl
-
 pub alone : (b : ℕ) (line : List ℕ) → one_line (b ∷ line) ≡ true
     → lines_of (b ∷ line) ≡ (b ∷ line) ∷ []
-alone b [] one = more_alone b [] (b == 10) refl (and_left (not (b == 10)) true one)
-alone b (c ∷ line) one =
-    more_alone b (c ∷ line) (b == 10) refl (and_left (not (b == 10)) (one_line (c ∷ line)) one)
-    ∙ ap (with_first b) (alone c line (and_right (not (b == 10)) (one_line (c ∷ line)) one))
+alone b [] one = rw (not-true (b == 10) (and_parts (not (b == 10)) true one).0)
+alone b (c ∷ line) one = let both = and_parts (not (b == 10)) (one_line (c ∷ line)) one in
+    rw (not-true (b == 10) both.0, alone c line both.1)
 
 no_more : (n : ℕ) → n ≡ 0 + n
 no_more n = omega arith
@@ -43,28 +37,23 @@ warnings_after line rest one =
     ∙ ap (λ (lines : List (List ℕ)). length (filter is_warning_line lines))
     (line_ends line rest one)
 
--- a line that begins with `warning: `
+-- a line that begins with `warning: `, and one that does not
 pub adds_warning : (old line new : List ℕ) → one_line line ≡ true
     → is_warning_line line ≡ true → new ≡ old ++ (line ++ 10 ∷ [])
     → AddsWarnings old 1 new
 adds_warning old line new one begins is = (
   line ++ 10 ∷ [],
   is,
-  λ rest. warnings_after line rest one
-      ∙ (ap (λ (t : Bool). length (cond t (line ∷ warning_lines rest) (warning_lines rest)))
-      begins ∙ omega arith),
+  λ rest. warnings_after line rest one ∙ rw begins (omega arith),
 )
 
--- a line that does not
 pub adds_no_warning : (old line new : List ℕ) → one_line line ≡ true
     → is_warning_line line ≡ false → new ≡ old ++ (line ++ 10 ∷ [])
     → AddsWarnings old 0 new
 adds_no_warning old line new one begins is = (
   line ++ 10 ∷ [],
   is,
-  λ rest. warnings_after line rest one
-      ∙ (ap (λ (t : Bool). length (cond t (line ∷ warning_lines rest) (warning_lines rest)))
-      begins ∙ no_more (warnings_in rest)),
+  λ rest. warnings_after line rest one ∙ rw begins (no_more (warnings_in rest)),
 )
 
 pub none_added : (text : List ℕ) → AddsWarnings text 0 text
@@ -95,23 +84,17 @@ counted text before n none some =
 part_is : (part : Part) (line : List ℕ) (t : Bool) → is_mistaken part line ≡ t
     → part_line part line ≡ indent t ++ (line ++ 10 ∷ [])
 unfolding part_line
-part_is part line t e = ap (λ (t : Bool). indent t ++ (line ++ 10 ∷ [])) e
+part_is part line t e = rw e
 
 -- one that begins as that of a warning would be mistaken
-or_left : (x y : Bool) → (x || y) ≡ false → x ≡ false
-or_left true y h = cc
-or_left false y h = refl
-
-or_right : (x y : Bool) → (x || y) ≡ false → y ≡ false
-or_right true y h = cc
-or_right false y h = h
+told_no_warning : (line : List ℕ) → is_told_line line ≡ false → is_warning_line line ≡ false
+told_no_warning line e =
+    (or_parts (is_warning_line line) _ (or_parts (is_verdict_line line) _ e).1).0
 
 no_warning : (part : Part) (line : List ℕ) → is_mistaken part line ≡ false
     → is_warning_line line ≡ false
-no_warning Segments line e = or_left (is_warning_line line) _
-    (or_right (is_verdict_line line) _ e)
-no_warning Account line e = or_left (is_warning_line line) _
-    (or_right (is_verdict_line line) _ (or_left (is_told_line line) _ e))
+no_warning Segments line e = told_no_warning line e
+no_warning Account line e = told_no_warning line (or_parts (is_told_line line) _ e).0
 
 pub adds_part_line : (part : Part) (old line new : List ℕ) → one_line line ≡ true
     → new ≡ old ++ part_line part line → AddsWarnings old 0 new
@@ -124,25 +107,17 @@ adds_part_line part old line new one is = by (is_mistaken part line) refl
         (is ∙ ap (λ (l : List ℕ). old ++ l) (part_is part line false e))
 
 -- texts of such lines
-ends_first : (b : ℕ) (lines : List (List ℕ)) → not (b == 10) ≡ true
+ends_first : (b : ℕ) (lines : List (List ℕ)) → (b == 10) ≡ false
     → list_all one_line lines ≡ true → list_all one_line (with_first b lines) ≡ true
-ends_first b [] other h = and_both (not (b == 10) && true) true (and_both (not (b == 10)) true
-    other refl) refl
-ends_first b (line ∷ lines) other h =
-    and_both (not (b == 10) && one_line line) (list_all one_line lines)
-    (and_both (not (b == 10)) (one_line line) other (and_left (one_line line) _ h))
-    (and_right (one_line line) _ h)
-
-one_first : (b : ℕ) (text : List ℕ) (t : Bool) → (b == 10) ≡ t
-    → list_all one_line (lines_of text) ≡ true
-    → list_all one_line (if t then [] ∷ lines_of text else with_first b (lines_of text))
-    ≡ true
-one_first b text true e h = h
-one_first b text false e h = ends_first b (lines_of text) (ap not e) h
+ends_first b [] other h = rw other
+ends_first b (line ∷ lines) other h = rw other h
 
 one_each : (text : List ℕ) → list_all one_line (lines_of text) ≡ true
 one_each [] = refl
-one_each (b ∷ text) = one_first b text (b == 10) refl (one_each text)
+one_each (b ∷ text) = elim (cases_Bool (b == 10)) [
+  | inl e ↦ rw e (one_each text)
+  | inr e ↦ rw e (ends_first b (lines_of text) e (one_each text))
+]
 
 adds_each : (part : Part) (old : List ℕ) (lines : List (List ℕ))
     → list_all one_line lines ≡ true
@@ -150,28 +125,26 @@ adds_each : (part : Part) (old : List ℕ) (lines : List (List ℕ))
 adds_each part old [] h = ([], refl, λ rest. no_more (warnings_in rest))
 adds_each part old (line ∷ lines) h =
     let here : List ℕ = old ++ part_line part line in
-    let first = adds_part_line part old line here (and_left (one_line line) _ h) refl in
-    let more = adds_each part here lines (and_right (one_line line) _ h) in
-    subst (λ (new : List ℕ). AddsWarnings old 0 new)
-    (append_assoc old (part_line part line) (flat_map (part_line part) lines))
-    (added_then old here (here ++ flat_map (part_line part) lines) 0 0 first more)
+    let both = and_parts (one_line line) (list_all one_line lines) h in
+    rw (append_assoc old (part_line part line) (flat_map (part_line part) lines)) at
+    (added_then old here (here ++ flat_map (part_line part) lines) 0 0
+    (adds_part_line part old line here both.0 refl) (adds_each part here lines both.1))
 
 pub adds_part_lines : (part : Part) (old lines new : List ℕ)
     → new ≡ old ++ part_lines part lines → AddsWarnings old 0 new
 unfolding part_lines
-adds_part_lines part old lines new is = subst (λ (new : List ℕ). AddsWarnings old 0 new) (sym is)
-    (adds_each part old (lines_of lines) (one_each lines))
+adds_part_lines part old lines new is = rw is (adds_each part old (lines_of lines) (one_each lines))
 
 -- the line of a segment is as it was
 not_both : (line : List ℕ) → is_slot_line line ≡ true → is_told_line line ≡ false
 not_both [] h = refl
 not_both (b ∷ line) h =
-    let is : b ≡ 115 = grind (arith, nat_tests, and_left (115 == b) _ h) in rw is refl
+    let is : b ≡ 115 = grind (arith, nat_tests, (and_parts (115 == b) _ h).0) in rw is refl
 
-adds_slot : (old line new : List ℕ) (lines : List (List ℕ)) → one_line line ≡ true
+adds_slot : (old line new : List ℕ) → one_line line ≡ true
     → new ≡ old ++ part_line Segments line
     → AddsSlotLines old (cond (is_slot_line line) (line ∷ []) []) new
-adds_slot old line new lines one is = by (is_slot_line line) refl (is_told_line line) refl
+adds_slot old line new one is = by (is_slot_line line) refl (is_told_line line) refl
   where
     by : (s : Bool) → is_slot_line line ≡ s → (w : Bool) → is_told_line line ≡ w
         → AddsSlotLines old (cond s (line ∷ []) []) new
@@ -193,23 +166,19 @@ adds_slots : (old : List ℕ) (lines : List (List ℕ)) → list_all one_line li
 adds_slots old [] h = ([], refl, λ rest. refl)
 adds_slots old (line ∷ lines) h =
     let here : List ℕ = old ++ part_line Segments line in
-    let first = adds_slot old line here lines (and_left (one_line line) _ h) refl in
-    let more = adds_slots here lines (and_right (one_line line) _ h) in
-    let all = adds_then old here (here ++ flat_map (part_line Segments) lines)
-    (cond (is_slot_line line) (line ∷ []) []) (filter is_slot_line lines) first more in
-    let same = subst (λ (ls : List (List ℕ)). AddsSlotLines old ls
-    (here ++ flat_map (part_line Segments) lines))
-    (slots_of line (filter is_slot_line lines) (is_slot_line line)) all in
-    subst (λ (new : List ℕ). AddsSlotLines old (filter is_slot_line (line ∷ lines)) new)
-    (append_assoc old (part_line Segments line) (flat_map (part_line Segments) lines)) same
+    let both = and_parts (one_line line) (list_all one_line lines) h in
+    rw (
+      slots_of line (filter is_slot_line lines) (is_slot_line line),
+      append_assoc old (part_line Segments line) (flat_map (part_line Segments) lines),
+    ) at
+    (adds_then old here (here ++ flat_map (part_line Segments) lines)
+    (cond (is_slot_line line) (line ∷ []) []) (filter is_slot_line lines)
+    (adds_slot old line here both.0 refl) (adds_slots here lines both.1))
 
 pub keeps_slot_lines : (old lines new : List ℕ) → new ≡ old ++ part_lines Segments lines
     → AddsSlotLines old (slot_lines lines) new
 unfolding part_lines slot_lines
-keeps_slot_lines old lines new is =
-    subst (λ (new : List ℕ). AddsSlotLines old (filter is_slot_line (lines_of lines)) new)
-    (sym is)
-    (adds_slots old (lines_of lines) (one_each lines))
+keeps_slot_lines old lines new is = rw is (adds_slots old (lines_of lines) (one_each lines))
 
 -- the line of a finding
 one_word : (w : Weight) → one_line (weight_word w) ≡ true
@@ -243,29 +212,25 @@ count_of Warning = 1
 count_of Harmless = 0
 count_of Note = 0
 
+-- a line that begins neither as that of a warning nor as that of a segment
+pub adds_other : (old line new : List ℕ) → one_line line ≡ true → is_warning_line line ≡ false
+    → is_slot_line line ≡ false → new ≡ old ++ (line ++ 10 ∷ []) → AddsFindings old 0 new
+adds_other old line new one w s is =
+    (adds_no_warning old line new one w is, adds_no_line old line new one s is)
+
 adds_text : (old : List ℕ) (w : Weight) (f : Said)
     → AddsFindings old (count_of w) (old ++ (text_with w f ++ 10 ∷ []))
-adds_text old Warning f =
-    let new = old ++ (text_with Warning f ++ 10 ∷ []) in (
-      adds_warning old (text_with Warning f) new (one_text Warning f) refl refl,
-      adds_no_line old (text_with Warning f) new (one_text Warning f) refl refl,
-    )
-adds_text old Harmless f =
-    let new = old ++ (text_with Harmless f ++ 10 ∷ []) in (
-      adds_no_warning old (text_with Harmless f) new (one_text Harmless f) refl refl,
-      adds_no_line old (text_with Harmless f) new (one_text Harmless f) refl refl,
-    )
-adds_text old Note f =
-    let new = old ++ (text_with Note f ++ 10 ∷ []) in (
-      adds_no_warning old (text_with Note f) new (one_text Note f) refl refl,
-      adds_no_line old (text_with Note f) new (one_text Note f) refl refl,
-    )
+adds_text old Warning f = let line = text_with Warning f in (
+  adds_warning old line (old ++ (line ++ 10 ∷ [])) (one_text Warning f) refl refl,
+  adds_no_line old line (old ++ (line ++ 10 ∷ [])) (one_text Warning f) refl refl,
+)
+adds_text old Harmless f = adds_other old (text_with Harmless f) _ (one_text Harmless f) refl refl
+    refl
+adds_text old Note f = adds_other old (text_with Note f) _ (one_text Note f) refl refl refl
 
 adds_finding_line : (old : List ℕ) (f : Said)
     → AddsFindings old (count_of (weight_of f.at.finding)) (old ++ finding_line f)
-adds_finding_line old f =
-    subst (λ (line : List ℕ). AddsFindings old (count_of (weight_of f.at.finding)) (old ++ line))
-    (sym (line_is f)) (adds_text old (weight_of f.at.finding) f)
+adds_finding_line old f = rw (line_is f) (adds_text old (weight_of f.at.finding) f)
 
 -- how many warnings there are with one more finding
 counted_with : (f : Said) (fs : List Said) (w : Weight)
@@ -292,18 +257,13 @@ lines_then a b c n m h k =
 
 adds_lines : (old : List ℕ) (fs : List Said)
     → AddsFindings old (warning_count fs) (old ++ flat_map finding_line fs)
-adds_lines old [] =
-    subst (λ (n : ℕ). AddsFindings old n (old ++ [])) (sym no_finding)
+adds_lines old [] = rw no_finding
     (([], refl, λ rest. no_more (warnings_in rest)), ([], refl, λ rest. refl))
 adds_lines old (f ∷ fs) =
     let here = old ++ finding_line f in
-    let count = count_of (weight_of f.at.finding) in
-    subst (λ (n : ℕ). AddsFindings old n (old ++ flat_map finding_line (f ∷ fs)))
-    (count_more f fs)
-    (subst (λ (new : List ℕ). AddsFindings old (count + warning_count fs) new)
-    (append_assoc old (finding_line f) (flat_map finding_line fs))
-    (lines_then old here (here ++ flat_map finding_line fs) count (warning_count fs)
-    (adds_finding_line old f) (adds_lines here fs)))
+    rw (count_more f fs, append_assoc old (finding_line f) (flat_map finding_line fs)) at
+    (lines_then old here (here ++ flat_map finding_line fs) (count_of (weight_of f.at.finding))
+    (warning_count fs) (adds_finding_line old f) (adds_lines here fs))
 
 pub adds_finding_lines : (old : List ℕ) (fs : List Said)
     → AddsFindings old (warning_count fs) (old ++ finding_lines fs)

@@ -1,15 +1,16 @@
 -- Findings with their words, one after another, and how many of them are warnings.
-use Rattle.std.proofs.Common.{◌≡◌, ◌∙◌, ◌+◌, ◌<◌, ◌++◌, ◌∷◌, [], ℕ, Bool, List, ap, arith, cond, ◌≤◌, false, get_or, length, map, refl, sym, take, true}
+use Rattle.std.proofs.Common.{◌≡◌, ◌∙◌, ◌+◌, ◌<◌, ◌++◌, ◌∷◌, [], ℕ, Bool, List, ap, arith, ◌≤◌, false, get_or, inl, inr, length, map, refl, sym, take, true}
 use mir.Val.{bool_byte}
 use Rattle.std.proofs.lemmas.List.{length-append, map-append, take_more}
 use Rattle.std.proofs.lemmas.List.Elements.{filter-append}
+use Rattle.std.proofs.lemmas.Bool.{cases_Bool}
 use Rattle.std.specs.List.{filter}
 use Rattle.ps_warnings.specs.Weights.{is_certain}
 use Rattle.ps_warnings.specs.declared.finding.DictionaryFinding.TheVariants as dictionary
 use Rattle.ps_warnings.specs.declared.finding.FileFinding.TheVariants as file
 use Rattle.ps_warnings.specs.declared.finding.Finding.{Finding}
 use Rattle.ps_warnings.specs.declared.finding.Finding.TheVariants as which
-use Rattle.ps_warnings.specs.Found.{Stated, about_link_in, is_about_link, is_warning, stated, warnings_among}
+use Rattle.ps_warnings.specs.Found.{about_link_in, is_about_link, warnings_among}
 use Rattle.ps_report.specs.Reported.{Said, findings_in, is_warned, said, warning_count}
 use Rattle.ps_report.specs.declared.finding.SaidFinding.{SaidFinding}
 
@@ -30,34 +31,18 @@ certain_about (which.Code c) h = cc
 certain_about (which.Procedure p) h = cc
 certain_about (which.Operand o) h = cc
 
--- one more finding, which is a warning or not, and about the link or not
-count_step : (c a : Bool) (x : Said) (xs : List Said) (s : Stated) (rest : List Stated)
-    → (c ≡ true → a ≡ true) → is_warned x ≡ c → is_warning s ≡ c
-    → length (filter is_warned xs) ≡ length (filter is_warning rest)
-    → length (filter is_warned (x ∷ xs)) ≡ length (filter is_warning (cond a (s ∷ rest) rest))
-count_step true true x xs s rest h k l so_far =
-    let grown : length (x ∷ filter is_warned xs) ≡ length (s ∷ filter is_warning rest) =
-    omega (arith, so_far) in
-    ap (λ (b : Bool). length (cond b (x ∷ filter is_warned xs) (filter is_warned xs))) k
-    ∙ (grown ∙ sym (ap (λ (b : Bool). length (cond b (s ∷ filter is_warning rest)
-    (filter is_warning rest))) l))
-count_step true false x xs s rest h k l so_far = let no = h refl in cc
-count_step false true x xs s rest h k l so_far =
-    ap (λ (b : Bool). length (cond b (x ∷ filter is_warned xs) (filter is_warned xs))) k
-    ∙ (so_far ∙ sym (ap (λ (b : Bool). length (cond b (s ∷ filter is_warning rest)
-    (filter is_warning rest))) l))
-count_step false false x xs s rest h k l so_far =
-    ap (λ (b : Bool). length (cond b (x ∷ filter is_warned xs) (filter is_warned xs))) k ∙ so_far
-
 -- so many of these findings are warnings as of those about the link
 pub warned_about : (fs : List Said)
     → warning_count fs ≡ length (warnings_among (about_link_in (findings_in fs)))
 unfolding warning_count warnings_among about_link_in
 warned_about [] = refl
-warned_about (f ∷ fs) =
-    count_step (is_certain f.at.finding) (is_about_link f.at.finding) f fs (stated f.at)
-    (filter (λ (s : Stated). is_about_link s.finding) (map stated (findings_in fs)))
-    (certain_about f.at.finding) refl refl (warned_about fs)
+warned_about (f ∷ fs) = let more = warned_about fs in elim (cases_Bool (is_certain f.at.finding)) [
+  | inl c ↦ rw (certain_about f.at.finding c, c) (omega (arith, more))
+  | inr c ↦ elim (cases_Bool (is_about_link f.at.finding)) [
+    | inl a ↦ rw (a, c) more
+    | inr a ↦ rw (a, c) more
+  ]
+]
 
 -- how many warnings one finding is
 pub byte_few : (b : Bool) → bool_byte b ≤ 1
@@ -66,8 +51,8 @@ byte_few false = omega arith
 
 alone : (x : Said) (b : Bool) → is_warned x ≡ b
     → length (filter is_warned (x ∷ [])) ≡ bool_byte b
-alone x true h = ap (λ (b : Bool). length (cond b (x ∷ []) [])) h
-alone x false h = ap (λ (b : Bool). length (cond b (x ∷ []) [])) h
+alone x true h = rw h
+alone x false h = rw h
 
 counted_more : (xs : List Said) (x : Said)
     → length (filter is_warned (xs ++ x ∷ []))

@@ -5,28 +5,20 @@ use Rattle.std.proofs.lemmas.List.{append_assoc, drop_more}
 use Rattle.ps_resolve.specs.Sources.{contents}
 use Rattle.ps_explained.proofs.OneLine.{one_append, one_before}
 use Rattle.ps_explained.specs.SlotLines.{one_line}
-use Rattle.ps_explained.proofs.SlotLines.{adds_no_line}
 use Rattle.ps_report.specs.Reported.{Said, warning_count}
 use Rattle.ps_report.specs.FindingLines.{finding_lines, first_line}
 use Rattle.ps_report.specs.LastLine.{asked_paths, asked_words, last_line, line_of_paths}
-use Rattle.ps_report.proofs.FindingLines.{AddsFindings, adds_finding_lines, adds_no_warning, lines_then, none_added}
-
--- the line, where there is a path or not
-abbrev line_if : Bool → List ℕ → List ℕ
-line_if none paths = if none then [] else codes "copy or compile again: "
-    ++ (first_line paths ++ codes "see WARNINGS in pslink(1)\n")
+use Rattle.ps_report.proofs.FindingLines.{AddsFindings, adds_finding_lines, adds_other, lines_then, none_added}
 
 pub no_line : (paths : List ℕ) → (length paths == 0) ≡ true → line_of_paths paths ≡ []
 unfolding line_of_paths
-no_line paths none = ap (λ (t : Bool). line_if t paths) none
+no_line paths none = rw none
 
 pub some_line : (paths line : List ℕ) → (length paths == 0) ≡ false → line ≡ first_line paths
     → codes "copy or compile again: " ++ (line ++ codes "see WARNINGS in pslink(1)\n")
     ≡ line_of_paths paths
 unfolding line_of_paths
-some_line paths line some is =
-    ap (λ (l : List ℕ). codes "copy or compile again: "
-    ++ (l ++ codes "see WARNINGS in pslink(1)\n")) is ∙ sym (ap (λ (t : Bool). line_if t paths) some)
+some_line paths line some is = rw (some, is)
 
 -- the line without its end
 abbrev words_of : List ℕ → List ℕ
@@ -48,15 +40,10 @@ line_end paths =
     ∙ sym (append_assoc (codes "copy or compile again: ") (first_line paths ++ end) (10 ∷ []))
 
 adds_words : (old paths : List ℕ) → AddsFindings old 0 (old ++ (words_of paths ++ 10 ∷ []))
-adds_words old paths =
-    let new = old ++ (words_of paths ++ 10 ∷ []) in (
-      adds_no_warning old (words_of paths) new (one_words paths) refl refl,
-      adds_no_line old (words_of paths) new (one_words paths) refl refl,
-    )
+adds_words old paths = adds_other old (words_of paths) _ (one_words paths) refl refl refl
 
 nothing_added : (old : List ℕ) → AddsFindings old 0 (old ++ [])
-nothing_added old = subst (λ (new : List ℕ). AddsFindings old 0 new) (sym (append-nil old))
-    (none_added old, ([], sym (append-nil old), λ rest. refl))
+nothing_added old = rw (append-nil old) (none_added old, ([], sym (append-nil old), λ rest. refl))
 
 adds_line_of : (old paths : List ℕ) → AddsFindings old 0 (old ++ line_of_paths paths)
 unfolding line_of_paths
@@ -65,8 +52,7 @@ adds_line_of old paths = by (length paths == 0)
     by : (t : Bool) → AddsFindings old 0 (old ++ (if t then [] else codes "copy or compile again: "
         ++ (first_line paths ++ codes "see WARNINGS in pslink(1)\n")))
     by true = nothing_added old
-    by false = subst (λ (line : List ℕ). AddsFindings old 0 (old ++ line))
-        (sym (line_end paths)) (adds_words old paths)
+    by false = rw (line_end paths) (adds_words old paths)
 
 none_more : (n : ℕ) → n + 0 ≡ n
 none_more n = omega arith
@@ -77,11 +63,9 @@ pub adds_last_lines : (paths : List (List ℕ)) (old : List ℕ) (found : List S
 adds_last_lines paths old found =
     let here = old ++ finding_lines found in
     let last = last_line paths found in
-    subst (λ (new : List ℕ). AddsFindings old (warning_count found) new)
-    (append_assoc old (finding_lines found) last)
-    (subst (λ (n : ℕ). AddsFindings old n (here ++ last)) (none_more (warning_count found))
+    rw (append_assoc old (finding_lines found) last, none_more (warning_count found)) at
     (lines_then old here (here ++ last) (warning_count found) 0 (adds_finding_lines old found)
-    (adds_line_of here (asked_paths found paths))))
+    (adds_line_of here (asked_paths found paths)))
 
 -- the paths from i on are path i and those behind it
 pub paths_left : (found : List Said) (paths : List (Bor (List ℕ))) (i : ℕ)

@@ -1,12 +1,13 @@
 -- A text that is put together is that of a report.
-use Rattle.std.proofs.Common.{◌≡◌, ◌∙◌, ◌++◌, [], ℕ, List, length, ap, subst, sym}
+use Rattle.std.proofs.Common.{◌≡◌, ◌++◌, [], ℕ, List}
 use Rattle.ps_resolve.specs.Standing.{NoneStands}
 use Rattle.ps_check_segments.specs.SeenSegments.{seen_segments}
 use Rattle.ps_explained.specs.SegmentLines.{segment_lines}
 use Rattle.ps_explained.specs.SlotLines.{AddsSlotLines}
 use Rattle.ps_explained.proofs.SlotLines.{adds_then_none, lines_in}
-use Rattle.ps_warnings.specs.AllFindings.{link_findings_of}
-use Rattle.ps_warnings.specs.Found.{Stated, about_link_in, warnings_among}
+use Rattle.ps_warnings.specs.Found.{about_link_in}
+use Rattle.ps_warnings.specs.WarnedFiles.{AreInOrder, AreSaid}
+use Rattle.ps_warnings.proofs.HasWarned.{warned_said}
 use Rattle.ps_report.specs.Reported.{ArePlaced, AreWorded, Reported, findings_in, warning_count}
 use Rattle.ps_report.specs.Reports.{AreSections, IsReport, Sections, front_of}
 use Rattle.ps_report.specs.Verdicts.{IsVerdict, verdict_name}
@@ -30,28 +31,25 @@ pub is_report : (paths : List (List ℕ)) (host : List ℕ) (libs : List (List �
     (r : Reported) (front : List ℕ) → Front paths host libs r front
     → r.text ≡ front ++ (finding_lines r.findings ++ last_line paths r.findings)
     → IsVerdict host libs r.verdict → r.name ≡ verdict_name host libs r.verdict
-    → about_link_in (findings_in r.findings)
-    ≡ link_findings_of paths host libs (seen_segments host libs)
+    → AreSaid paths host libs (seen_segments host libs) (about_link_in (findings_in r.findings))
+    → AreInOrder paths host libs (seen_segments host libs) (about_link_in (findings_in r.findings))
     → ArePlaced r.findings → AreWorded r.findings → IsReport paths host libs r
-is_report paths host libs r front is text right name findings placed worded =
+is_report paths host libs r front is text right name said ordered placed worded =
     let lines = finding_lines r.findings ++ last_line paths r.findings in
-    let whole = text ∙ ap (λ (t : List ℕ). t ++ lines) is.parts in
+    let whole : r.text ≡ front_of r.verdict is.sections ++ lines = rw is.parts at text in
     let added = adds_last_lines paths front r.findings in record {
       right = right;
       line = told_in paths host libs r.verdict is.sections lines r.text is.are.files whole;
       name = name;
       made = (is.sections, is.are, whole);
-      segments =
-          λ none.
-          lines_in r.text (segment_lines paths host libs)
+      segments = λ none. lines_in r.text (segment_lines paths host libs)
           (adds_then_none [] front r.text (segment_lines paths host libs) (is.lines none)
-          (subst (λ (t : List ℕ). AddsSlotLines front [] t) (sym text) added.1));
-      findings = findings;
-      warnings = warned_about r.findings
-          ∙ ap (λ (l : List Stated). length (warnings_among l)) findings;
+          (rw text added.1));
+      findings = said;
+      ordered = ordered;
+      warnings = rw (warned_about r.findings)
+          (warned_said paths host libs (seen_segments host libs) _ said);
       placed = placed;
       worded = worded;
-      counted = counted r.text front (warning_count r.findings) is.warnings
-          (subst (λ (t : List ℕ). AddsWarnings front (warning_count r.findings) t) (sym text)
-          added.0);
+      counted = counted r.text front (warning_count r.findings) is.warnings (rw text added.0);
     }

@@ -10,23 +10,19 @@ use Rattle.ps_linkfile.specs.declared.summary.Summary.{Summary}
 use Rattle.ps_resolve.specs.Standing.{NoneStands}
 use Rattle.ps_explained.specs.SlotLines.{AddsSlotLines, one_line}
 use Rattle.ps_explained.proofs.OneLine.{one_append, one_digits}
-use Rattle.ps_explained.proofs.SlotLines.{adds_no_line, adds_then, adds_then_none}
+use Rattle.ps_explained.proofs.SlotLines.{adds_then, adds_then_none}
 use Rattle.ps_report.specs.Lists.{lacks_host}
 use Rattle.ps_report.specs.Verdicts.{IsVerdict, fault_of, verdict_line}
 use Rattle.ps_report.specs.FindingLines.{AddsWarnings, part_lines}
 use Rattle.ps_report.specs.declared.lines.Part.{Part}
 use Rattle.ps_report.specs.declared.verdict.Verdict.{Verdict}
 use Rattle.ps_report.specs.declared.verdict.Verdict.TheVariants.{Links, Refused}
-use Rattle.ps_report.proofs.FindingLines.{added_then, adds_no_warning, part_lines_none}
+use Rattle.ps_report.proofs.FindingLines.{AddsFindings, added_then, adds_other, part_lines_none}
 
 -- a part that is empty
 pub adds_empty : (part : Part) (old text new : List ℕ) → new ≡ old ++ part_lines part text
     → text ≡ [] → AddsSlotLines old [] new
-adds_empty part old text new is e = (
-  [],
-  is ∙ ap (λ (t : List ℕ). old ++ t) (ap (part_lines part) e ∙ part_lines_none part),
-  λ rest. refl,
-)
+adds_empty part old text new is e = ([], rw (e, part_lines_none part) at is, λ rest. refl)
 
 -- the line of a verdict that the files are linked
 abbrev links_words : Summary → List ℕ
@@ -87,18 +83,11 @@ one_fault f =
 
 -- the line of a verdict begins neither as that of a segment nor as that of a warning
 pub adds_verdict : (old new : List ℕ) (verdict : Verdict) → new ≡ old ++ verdict_line verdict
-    → AddsSlotLines old [] new × AddsWarnings old 0 new
+    → AddsFindings old 0 new
 adds_verdict old new (Links s) is =
-    let same = is ∙ ap (λ (t : List ℕ). old ++ t) (links_end s) in (
-      adds_no_line old (links_words s) new (one_links s) refl same,
-      adds_no_warning old (links_words s) new (one_links s) refl same,
-    )
-adds_verdict old new (Refused f) is =
-    let words = codes "pslink: " ++ fault_text f in
-    let one = one_append (codes "pslink: ") (fault_text f) refl (one_fault f) in (
-      adds_no_line old words new one refl is,
-      adds_no_warning old words new one refl is,
-    )
+    adds_other old (links_words s) new (one_links s) refl refl (rw (links_end s) at is)
+adds_verdict old new (Refused f) is = adds_other old (codes "pslink: " ++ fault_text f) new
+    (one_append (codes "pslink: ") (fault_text f) refl (one_fault f)) refl refl is
 
 -- lines of segments after a part without one, and three parts without one
 pub adds_five : (a b c d e f : List ℕ) (lines : List (List ℕ)) → AddsSlotLines a [] b

@@ -1,5 +1,5 @@
 -- The report of a check of files at these paths, the host's first, and what is printed of it.
-use Rattle.std.specs.Prelude.{◌≡◌, ◌<◌, ℕ, true, false, if◌then◌else◌, List, [], ◌∷◌, ◌++◌, Option, Some, None, length}
+use Rattle.std.specs.Prelude.{◌≡◌, ◌↔◌, ◌<◌, ℕ, true, false, if◌then◌else◌, List, [], ◌∷◌, ◌++◌, Option, Some, None}
 use Rattle.ps_words.specs.declared.fault.Fault.{Fault}
 use Rattle.ps_resolve.specs.AllFaults.{reading_fault}
 use Rattle.ps_resolve.specs.Standing.{NoneStands}
@@ -10,8 +10,8 @@ use Rattle.ps_explained.specs.FileLines.{AreFileLines}
 use Rattle.ps_explained.specs.OverviewText.{overview_text}
 use Rattle.ps_explained.specs.SegmentLines.{has_unread, read_lines, segment_lines}
 use Rattle.ps_explained.specs.SlotLines.{slot_lines}
-use Rattle.ps_warnings.specs.AllFindings.{link_findings_of, link_warnings_of}
-use Rattle.ps_warnings.specs.Found.{about_link_in}
+use Rattle.ps_warnings.specs.Found.{Stated, about_link_in, is_warning}
+use Rattle.ps_warnings.specs.WarnedFiles.{AreInOrder, AreSaid, IsSo}
 use Rattle.ps_writing.specs.declared.rows.Form.{Form}
 use Rattle.ps_writing.specs.declared.rows.Form.TheVariants.{Lines, Json}
 use Rattle.ps_listing.specs.FileLists.{IsList}
@@ -25,15 +25,10 @@ use Rattle.ps_report.specs.Reported.{ArePlaced, AreWorded, Reported, findings_in
 use Rattle.ps_report.specs.Verdicts.{IsVerdict, Tells, fault_of, verdict_line, verdict_name}
 use Rattle.ps_report.specs.declared.verdict.Verdict.{Verdict}
 
--- How many warnings a check of these files has: those that the definitions give, for the segments of
--- the link as they were read.
-abbrev pub warnings_of_files : List (List ℕ) → List ℕ → List (List ℕ) → ℕ
-warnings_of_files paths host libs =
-    length (link_warnings_of paths host libs (seen_segments host libs))
-
--- a check of these files has a warning
+-- of these files something is so that a warning says
 abbrev pub HasWarning : List (List ℕ) → List ℕ → List (List ℕ) → Type 0
-HasWarning paths host libs = 0 < warnings_of_files paths host libs
+HasWarning paths host libs = (thing : Stated) × (is_warning thing ≡ true)
+    × IsSo paths host libs (seen_segments host libs) thing thing.finding
 
 -- Of the segments of a host as they were read, those of which a report tells where there is a
 -- fault of reading: none of a host that is no code file.
@@ -98,12 +93,14 @@ pub record IsReport (paths : List (List ℕ)) (host : List ℕ) (libs : List (Li
       ++ (finding_lines r.findings ++ last_line paths r.findings))
   -- where the files are linked, the lines that begin with `slot ` are those of the segments
   pub segments : NoneStands host libs → slot_lines r.text ≡ segment_lines paths host libs
-  -- the findings about the link are those that their definitions give, in order, each with its
-  -- place, for the segments of the link as they were read
-  pub findings : about_link_in (findings_in r.findings)
-      ≡ link_findings_of paths host libs (seen_segments host libs)
-  -- so many of the findings are warnings as the definitions give, and no other finding is one
-  pub warnings : warning_count r.findings ≡ warnings_of_files paths host libs
+  -- of the findings about the link each is so, and whatever is so is said, for the segments of the
+  -- link as they were read; and they are in order
+  pub findings : AreSaid paths host libs (seen_segments host libs)
+      (about_link_in (findings_in r.findings))
+  pub ordered : AreInOrder paths host libs (seen_segments host libs)
+      (about_link_in (findings_in r.findings))
+  -- a finding is a warning exactly where something is so that a warning says
+  pub warnings : (0 < warning_count r.findings) ↔ HasWarning paths host libs
   -- each finding is said to be where it is
   pub placed : ArePlaced r.findings
   -- each finding is said in the words that are its own

@@ -2,8 +2,9 @@
 ghost use Rattle.std.specs.Prelude.{◌≡◌, ◌∷◌, [], IfOk, None, Some, map, string_bytes};
 ghost use Rattle.ps_resolve.specs.AllFaults.{reading_fault};
 ghost use Rattle.ps_resolve.specs.Sources.{contents};
-ghost use Rattle.ps_warnings.specs.AllFindings.{link_findings_of};
 ghost use Rattle.ps_warnings.specs.Found.{about_link};
+ghost use Rattle.ps_warnings.specs.WarnedFiles.{AreInOrder, AreSaid};
+ghost use Rattle.ps_check_segments.specs.Paths.{paths_in};
 ghost use Rattle.ps_check_segments.specs.Seen.{seen};
 ghost use Rattle.ps_check_segments.specs.SeenSegments.{seen_segments};
 ghost use Rattle.ps_explained.specs.FileLines.{AreFileLines};
@@ -41,57 +42,56 @@ pub(crate) struct Inspection<'a, A: Allocator> {
 }
 
 /// What is found in a host and its libraries, which were read, and of which this is the verdict.
-///
-/// `host_path` and `paths` name the files; `host` and each of `libs` are whole code files, the
-/// libraries in the order in which units are looked up in them. Returns an error where memory was
-/// refused.
+/// Returns an error where memory was refused.
 pub(crate) fn inspect<'a, A: Allocator + Copy>(
     alloc: A,
-    host_path: &'a str,
-    paths: &'a [&'a str],
-    host: &'a [u8],
-    libs: &'a [&'a [u8]],
+    files: &NamedFiles<'a>,
     reading: &Reading<'a>,
     verdict: Verdict,
 ) -> Result<Inspection<'a, A>, AllocError>
-    requires { reading.now ≡ record { host = host.now; libs = contents libs.now } }
-    ensures files { IfOk result (λ found. AreFileLines (host_path.now ∷ contents paths.now) 0
-        (host.now ∷ contents libs.now) (string_bytes found.overview.files)) }
+    requires { reading.now ≡ record {
+      host = files.now.host.now;
+      libs = contents files.now.libs.now;
+    } }
+    ensures files { IfOk result (λ found. AreFileLines (paths_in files.now) 0
+        (files.now.host.now ∷ contents files.now.libs.now)
+        (string_bytes found.overview.files)) }
     ensures silent { IfOk result (λ found. AddsSlotLines [] []
         (string_bytes found.overview.files)) }
-    ensures linked { IfOk result (λ found. reading_fault host.now (contents libs.now) ≡ None
+    ensures linked { IfOk result (λ found.
+        reading_fault files.now.host.now (contents files.now.libs.now) ≡ None
         → slot_lines (string_bytes found.overview.segments) ≡ segment_lines
-        (host_path.now ∷ contents paths.now) host.now (contents libs.now)) }
+        (paths_in files.now) files.now.host.now (contents files.now.libs.now)) }
     ensures read { IfOk result (λ found. (why : Why)
-        → reading_fault host.now (contents libs.now) ≡ Some why
-        → slot_lines (string_bytes found.overview.segments) ≡ read_lines
-        (host_path.now ∷ contents paths.now) (has_unread host.now (contents libs.now))
-        (told_of host.now (seen_segments host.now (contents libs.now)))) }
+        → reading_fault files.now.host.now (contents files.now.libs.now) ≡ Some why
+        → slot_lines (string_bytes found.overview.segments) ≡ read_lines (paths_in files.now)
+        (has_unread files.now.host.now (contents files.now.libs.now))
+        (told_of files.now.host.now
+        (seen_segments files.now.host.now (contents files.now.libs.now)))) }
     ensures told { IfOk result (λ found. string_bytes found.overview.segments ≡ overview_text
-        (host_path.now ∷ contents paths.now) host.now (contents libs.now)
-        (told_segments host.now (contents libs.now))) }
+        (paths_in files.now) files.now.host.now (contents files.now.libs.now)
+        (told_segments files.now.host.now (contents files.now.libs.now))) }
     ensures name { IfOk result (λ found. found.name
-        ≡ verdict_name_spec host.now (contents libs.now) verdict) }
+        ≡ verdict_name_spec files.now.host.now (contents files.now.libs.now) verdict) }
     ensures explanation { IfOk result (λ found. fault_of verdict ≡ None
         → string_bytes found.explanation ≡ []) }
-    ensures findings { IfOk result (λ found. about_link found.findings
-        ≡ link_findings_of (host_path.now ∷ contents paths.now) host.now (contents libs.now)
-        (seen_segments host.now (contents libs.now))) }
+    ensures said { IfOk result (λ found. AreSaid (paths_in files.now) files.now.host.now
+        (contents files.now.libs.now)
+        (seen_segments files.now.host.now (contents files.now.libs.now))
+        (about_link found.findings)) }
+    ensures ordered { IfOk result (λ found. AreInOrder (paths_in files.now) files.now.host.now
+        (contents files.now.libs.now)
+        (seen_segments files.now.host.now (contents files.now.libs.now))
+        (about_link found.findings)) }
 {
-    let inputs = NamedFiles {
-        host_path,
-        paths,
-        host,
-        libs,
-    };
     let fault = verdict.fault();
     let name = verdict_name(reading, verdict);
-    let list = segments_of(alloc, &inputs, reading)?;
-    let told = told_segments(&inputs, reading, list.as_slice());
-    let overview = overview_of(alloc, &inputs, told)?;
-    let findings = findings_of(alloc, &inputs, list.as_slice(), fault)?;
-    let is_suspect = is_suspect(&inputs, findings.list.as_slice(), fault);
-    let explanation = explanation_of(alloc, &inputs, reading, list.as_slice(), fault, is_suspect)?;
+    let list = segments_of(alloc, files, reading)?;
+    let told = told_segments(files, reading, list.as_slice());
+    let overview = overview_of(alloc, files, told)?;
+    let findings = findings_of(alloc, files, list.as_slice(), fault)?;
+    let is_suspect = is_suspect(files, findings.list.as_slice(), fault);
+    let explanation = explanation_of(alloc, files, reading, list.as_slice(), fault, is_suspect)?;
     Ok(Inspection {
         overview,
         name,
@@ -102,17 +102,17 @@ pub(crate) fn inspect<'a, A: Allocator + Copy>(
 
 /// The segments of which a report tells: all, where the files are read without a fault.
 fn told_segments<'l, 'a>(
-    inputs: &NamedFiles<'a>,
+    files: &NamedFiles<'a>,
     reading: &Reading<'a>,
     list: &'l [ReadSegment<'a>],
 ) -> &'l [ReadSegment<'a>]
     ensures refused { (why : Why) → reading_fault reading.now.host reading.now.libs ≡ Some why
-        → map seen result.now ≡ told_of inputs.now.host.now (map seen list.now) }
+        → map seen result.now ≡ told_of files.now.host.now (map seen list.now) }
     ensures all { reading_fault reading.now.host reading.now.libs ≡ None
         → map seen result.now ≡ map seen list.now }
 {
     if reading.fault().is_some() {
-        told_after_fault(inputs, list)
+        told_after_fault(files, list)
     } else {
         list
     }
@@ -121,19 +121,19 @@ fn told_segments<'l, 'a>(
 /// The segments of which a report tells where there is a fault: none of a host that is no code
 /// file.
 fn told_after_fault<'l, 'a>(
-    inputs: &NamedFiles<'a>,
+    files: &NamedFiles<'a>,
     list: &'l [ReadSegment<'a>],
 ) -> &'l [ReadSegment<'a>]
-    ensures { map seen result.now ≡ told_of inputs.now.host.now (map seen list.now) }
+    ensures { map seen result.now ≡ told_of files.now.host.now (map seen list.now) }
 {
-    if is_code_type(inputs.host) { list } else { &[] }
+    if is_code_type(files.host) { list } else { &[] }
 }
 
 /// A warning or a note is told of the file of the fault.
-fn is_suspect(inputs: &NamedFiles<'_>, findings: &[FindingAt<'_>], fault: Option<Fault>) -> bool {
+fn is_suspect(files: &NamedFiles<'_>, findings: &[FindingAt<'_>], fault: Option<Fault>) -> bool {
     match fault {
         Some(fault) => {
-            let path = inputs.path(fault.file);
+            let path = files.path(fault.file);
             findings.iter().any(|found| asks_for(found, path))
         }
         None => false,
@@ -143,7 +143,7 @@ fn is_suspect(inputs: &NamedFiles<'_>, findings: &[FindingAt<'_>], fault: Option
 /// What the fault is in these files, and what to do about it, in lines; empty where there is none.
 fn explanation_of<'a, A: Allocator>(
     alloc: A,
-    inputs: &NamedFiles<'a>,
+    files: &NamedFiles<'a>,
     reading: &Reading<'a>,
     list: &[ReadSegment<'a>],
     fault: Option<Fault>,
@@ -153,7 +153,7 @@ fn explanation_of<'a, A: Allocator>(
 {
     let mut text = String::new(alloc);
     if let Some(fault) = fault {
-        let explanation = Explanation(Case::new(inputs, reading, list, fault, is_suspect));
+        let explanation = Explanation(Case::new(files, reading, list, fault, is_suspect));
         write!(text, "{explanation}")?;
     }
     Ok(text)

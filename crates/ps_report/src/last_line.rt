@@ -1,12 +1,13 @@
 //! The last line of a report that has warnings or notes.
-ghost use Rattle.std.specs.Prelude.{◌≡◌, ◌∷◌, ◌++◌, IfOk, OnOk, codes, map, string_bytes};
+ghost use Rattle.std.specs.Prelude.{◌≡◌, ◌++◌, IfOk, OnOk, codes, map, string_bytes};
 ghost use Rattle.std.specs.List.{list_any};
-ghost use Rattle.ps_resolve.specs.Sources.{contents};
+ghost use Rattle.ps_check_segments.specs.Paths.{paths_in};
 ghost use Rattle.ps_report.specs.LastLine.{asked_paths, asked_words, asks as asks_spec, asks_for as asks_for_spec, last_line, line_of_paths};
 ghost use Rattle.ps_report.specs.Reported.{said};
 
 use crate::finding::SaidFinding;
 use crate::finding_lines::first_line;
+use ps_check_segments::NamedFiles;
 use ps_filetype::ShownPath;
 use ps_warnings::{FindingAt, Weight};
 use std::alloc::{AllocError, Allocator};
@@ -62,15 +63,14 @@ fn add_asked<A: Allocator>(
 fn paths_asked_for<A: Allocator + Copy>(
     alloc: A,
     findings: &[SaidFinding<'_, A>],
-    host_path: &str,
-    paths: &[&str],
+    files: &NamedFiles<'_>,
 ) -> Result<String<A>, AllocError>
     ensures { IfOk result (λ asked. string_bytes asked ≡ asked_paths (map said findings.now)
-        (host_path.now ∷ contents paths.now)) }
+        (paths_in files.now)) }
 {
     let mut text = String::new(alloc);
-    add_asked(&mut text, findings, host_path)?;
-    for path in paths {
+    add_asked(&mut text, findings, files.host_path)?;
+    for path in files.paths {
         add_asked(&mut text, findings, path)?;
     }
     Ok(text)
@@ -104,12 +104,11 @@ pub(crate) fn add_last_line<A: Allocator + Copy>(
     alloc: A,
     text: &mut String<A>,
     findings: &[SaidFinding<'_, A>],
-    host_path: &str,
-    paths: &[&str],
+    files: &NamedFiles<'_>,
 ) -> Result<(), AllocError>
     ensures { OnOk result (string_bytes text.new ≡ string_bytes text.old
-        ++ last_line (host_path.now ∷ contents paths.now) (map said findings.now)) }
+        ++ last_line (paths_in files.now) (map said findings.now)) }
 {
-    let asked = paths_asked_for(alloc, findings, host_path, paths)?;
+    let asked = paths_asked_for(alloc, findings, files)?;
     add_line_of(text, asked.as_str())
 }

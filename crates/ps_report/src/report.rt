@@ -1,7 +1,8 @@
 //! The report of a check.
-ghost use Rattle.std.specs.Prelude.{◌≡◌, ◌↔◌, ◌⊎◌, ◌∷◌, ◌++◌, [], IfOk, OnOk, false, map, true, string_bytes};
+ghost use Rattle.std.specs.Prelude.{◌≡◌, ◌↔◌, ◌⊎◌, ◌++◌, [], IfOk, OnOk, false, map, true, string_bytes};
 ghost use Rattle.ps_resolve.specs.Sources.{contents};
 ghost use Rattle.ps_resolve.specs.Standing.{NoneStands};
+ghost use Rattle.ps_check_segments.specs.Paths.{paths_in};
 ghost use Rattle.ps_explained.specs.SlotLines.{AddsSlotLines, slot_lines};
 ghost use Rattle.ps_report.specs.Reported.{reported, said, warning_count};
 ghost use Rattle.ps_report.specs.Reports.{HasWarning, IsReport, front_of};
@@ -17,6 +18,7 @@ use crate::lines::{Part, add_lines};
 use crate::printed::PrintedFindings;
 use crate::verdict::{Verdict, verdict_of};
 use crate::without_host::lists_without_host;
+use ps_check_segments::NamedFiles;
 use ps_laws::first_of_all;
 use ps_resolve::{Reading, read};
 use ps_words::Name;
@@ -74,8 +76,7 @@ impl<A: Allocator> Report<'_, A> {
 /// Checks a host and the libraries of its units, and reports what a link of them would do, and why
 /// it would not.
 ///
-/// `host_path` and `paths` name the files in the text; `host` and each of `libs` are whole code
-/// files, the libraries in the order in which units are looked up in them. The verdict is that of
+/// The paths of `files` name them in the text. The verdict is that of
 /// `ps_linkfile::link`: of a refusal it has the first fault of all, and its text has the line of
 /// that fault. Where the first file is no host and no library is one, the text has the lines of
 /// the list of each file that has a path. Where the files are linked, each segment of the link has
@@ -83,23 +84,22 @@ impl<A: Allocator> Report<'_, A> {
 /// memory was refused.
 pub fn check<'a, A: Allocator + Copy>(
     alloc: A,
-    host_path: &'a str,
-    paths: &'a [&'a str],
-    host: &'a [u8],
-    libs: &'a [&'a [u8]],
+    files: &NamedFiles<'a>,
 ) -> Result<Report<'a, A>, AllocError>
-    ensures report { IfOk result (λ r. IsReport (host_path.now ∷ contents paths.now) host.now
-        (contents libs.now) (reported r)) }
+    ensures report { IfOk result (λ r. IsReport (paths_in files.now) files.now.host.now
+        (contents files.now.libs.now) (reported r)) }
     ensures links { IfOk result (λ r. (check_status false (warning_count (map said
-        r.findings.items)) r.verdict ≡ 0) ↔ NoneStands host.now (contents libs.now)) }
+        r.findings.items)) r.verdict ≡ 0) ↔ NoneStands files.now.host.now
+        (contents files.now.libs.now)) }
     ensures refused { IfOk result (λ r. (check_status false (warning_count (map said
-        r.findings.items)) r.verdict ≡ 1) ↔ IsRefused host.now (contents libs.now)) }
+        r.findings.items)) r.verdict ≡ 1) ↔ IsRefused files.now.host.now
+        (contents files.now.libs.now)) }
     ensures warned { IfOk result (λ r. (check_status true (warning_count (map said
         r.findings.items)) r.verdict ≡ 1)
-        ↔ (HasWarning (host_path.now ∷ contents paths.now) host.now (contents libs.now)
-        ⊎ IsRefused host.now (contents libs.now))) }
+        ↔ (HasWarning (paths_in files.now) files.now.host.now (contents files.now.libs.now)
+        ⊎ IsRefused files.now.host.now (contents files.now.libs.now))) }
 {
-    check_reading(alloc, host_path, paths, host, libs, &read(host, libs))
+    check_reading(alloc, files, &read(files.host, files.libs))
 }
 
 /// Checks a host and its libraries, which were read. A function by itself that borrows the reading,
@@ -107,28 +107,20 @@ pub fn check<'a, A: Allocator + Copy>(
 #[inline(never)]
 fn check_reading<'a, A: Allocator + Copy>(
     alloc: A,
-    host_path: &'a str,
-    paths: &'a [&'a str],
-    host: &'a [u8],
-    libs: &'a [&'a [u8]],
+    files: &NamedFiles<'a>,
     reading: &Reading<'a>,
 ) -> Result<Report<'a, A>, AllocError>
-    requires { reading.now ≡ record { host = host.now; libs = contents libs.now } }
-    ensures report { IfOk result (λ r. IsReport (host_path.now ∷ contents paths.now) host.now
-        (contents libs.now) (reported r)) }
-    ensures links { IfOk result (λ r. (check_status false (warning_count (map said
-        r.findings.items)) r.verdict ≡ 0) ↔ NoneStands host.now (contents libs.now)) }
-    ensures refused { IfOk result (λ r. (check_status false (warning_count (map said
-        r.findings.items)) r.verdict ≡ 1) ↔ IsRefused host.now (contents libs.now)) }
-    ensures warned { IfOk result (λ r. (check_status true (warning_count (map said
-        r.findings.items)) r.verdict ≡ 1)
-        ↔ (HasWarning (host_path.now ∷ contents paths.now) host.now (contents libs.now)
-        ⊎ IsRefused host.now (contents libs.now))) }
+    requires { reading.now ≡ record {
+      host = files.now.host.now;
+      libs = contents files.now.libs.now;
+    } }
+    ensures { IfOk result (λ r. IsReport (paths_in files.now) files.now.host.now
+        (contents files.now.libs.now) (reported r)) }
 {
     first_of_all();
     let verdict = verdict_of(alloc, reading)?;
-    let inspection = inspect(alloc, host_path, paths, host, libs, reading, verdict)?;
-    let lists = lists_without_host(alloc, verdict, host_path, paths, host, libs)?;
+    let inspection = inspect(alloc, files, reading, verdict)?;
+    let lists = lists_without_host(alloc, verdict, files)?;
     let parts = Sections {
         files: inspection.overview.files.as_str(),
         segments: inspection.overview.segments.as_str(),
@@ -144,7 +136,7 @@ fn check_reading<'a, A: Allocator + Copy>(
         findings,
         text: front,
     };
-    let lines = lines_of_findings(alloc, &report, host_path, paths)?;
+    let lines = lines_of_findings(alloc, &report, files)?;
     report.text.push_str(lines.as_str())?;
     Ok(report)
 }
@@ -153,23 +145,15 @@ fn check_reading<'a, A: Allocator + Copy>(
 fn lines_of_findings<A: Allocator + Copy>(
     alloc: A,
     report: &Report<'_, A>,
-    host_path: &str,
-    paths: &[&str],
+    files: &NamedFiles<'_>,
 ) -> Result<String<A>, AllocError>
     ensures { IfOk result (λ lines. string_bytes lines
         ≡ finding_lines (map said report.now.findings.items)
-        ++ last_line (host_path.now ∷ contents paths.now)
-        (map said report.now.findings.items)) }
+        ++ last_line (paths_in files.now) (map said report.now.findings.items)) }
 {
     let form = Form::Lines;
     let mut lines = string_of(alloc, &PrintedFindings { form, report })?;
-    add_last_line(
-        alloc,
-        &mut lines,
-        report.findings.as_slice(),
-        host_path,
-        paths,
-    )?;
+    add_last_line(alloc, &mut lines, report.findings.as_slice(), files)?;
     Ok(lines)
 }
 

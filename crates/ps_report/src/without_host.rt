@@ -1,12 +1,14 @@
 //! The lists of files of which none has a host program.
 ghost use Rattle.std.specs.Prelude.{◌≡◌, ◌∷◌, [], IfOk, false, string_bytes, true};
 ghost use Rattle.ps_resolve.specs.Sources.{contents};
+ghost use Rattle.ps_check_segments.specs.Paths.{paths_in};
 ghost use Rattle.ps_listing.specs.FileLists.{IsList};
 ghost use Rattle.ps_listing.specs.declared.lists.ListForm.TheVariants.{Lines};
 ghost use Rattle.ps_report.specs.Lists.{is_no_host as is_no_host_spec, is_no_host_reason as is_no_host_reason_spec, lacks_host as lacks_host_spec};
 
 use crate::kept::string_of;
 use crate::verdict::Verdict;
+use ps_check_segments::NamedFiles;
 use ps_listing::{ListForm, Lists, has_host_among};
 use ps_words::Reason;
 use std::alloc::{AllocError, Allocator};
@@ -42,20 +44,26 @@ fn lacks_host(verdict: Verdict, libs: &[&[u8]]) -> bool
 pub(crate) fn lists_without_host<'a, A: Allocator + Copy>(
     alloc: A,
     verdict: Verdict,
-    host_path: &'a str,
-    paths: &[&'a str],
-    host: &'a [u8],
-    libs: &[&'a [u8]],
+    files: &NamedFiles<'a>,
 ) -> Result<String<A>, AllocError>
-    ensures lists { IfOk result (λ lists. lacks_host_spec verdict (contents libs.now) ≡ true
-        → IsList Lines (host_path.now ∷ contents paths.now) (host.now ∷ contents libs.now)
+    ensures lists { IfOk result (λ lists.
+        lacks_host_spec verdict (contents files.now.libs.now) ≡ true
+        → IsList Lines (paths_in files.now) (files.now.host.now ∷ contents files.now.libs.now)
         (string_bytes lists)) }
-    ensures none { IfOk result (λ lists. lacks_host_spec verdict (contents libs.now) ≡ false
+    ensures none { IfOk result (λ lists.
+        lacks_host_spec verdict (contents files.now.libs.now) ≡ false
         → string_bytes lists ≡ []) }
 {
-    if !lacks_host(verdict, libs) {
+    if !lacks_host(verdict, files.libs) {
         return Ok(String::new(alloc));
     }
-    let lists = Lists::of(alloc, ListForm::Lines, host_path, paths, host, libs)?;
+    let lists = Lists::of(
+        alloc,
+        ListForm::Lines,
+        files.host_path,
+        files.paths,
+        files.host,
+        files.libs,
+    )?;
     string_of(alloc, &lists)
 }

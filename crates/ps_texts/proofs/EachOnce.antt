@@ -1,7 +1,7 @@
 -- A list to which names are added, each once.
 use Rattle.ps_laws.proofs.Vocabulary.{◌⊎◌, if◌then◌else◌, Decides, Decides-and, Decides-like, bytes_eq, bytes_eq-Decides, slice_get, false≢true, same_Some, is_unit, is_role, entry_at, role_of, slots, ◌≡◌, ℕ, zero, suc, List, [], ◌∷◌, ◌++◌, length, Some, None, Bool, true, false, refl, sym, ap, subst, ◌∙◌, inl, inr, arith, filter_map, SomeItem, SLOTS}
 use Rattle.std.specs.Prelude.{Result, Ok, Err}
-use Rattle.ps_laws.proofs.Items.{in_filter_map, in_left, in_range, in_right, of_filter_map, of_range}
+use Rattle.ps_lists.proofs.Items.{in_filter_map, in_left, in_range, in_right, of_filter_map, of_range}
 use Rattle.ps_laws.proofs.Looking.{any_of_items, of_test}
 use Rattle.ps_words.specs.declared.fault.Reason.{Reason}
 use Rattle.ps_codefile.specs.declared.entry.Role.{Role}

@@ -10,7 +10,7 @@ use Rattle.ps_linkfile.specs.ShowJson.{show_as}
 use Rattle.ps_linkfile.specs.ShowText.{show_fault}
 use Rattle.ps_listing.specs.FileLists.{IsList, lists_in}
 use Rattle.ps_report.specs.Reported.{Reported, reported, said, warning_count}
-use Rattle.ps_report.specs.Reports.{IsReport, printed_findings, printed_report, warnings_of_files}
+use Rattle.ps_report.specs.Reports.{IsReport, printed_findings, printed_report}
 use Rattle.ps_report.specs.Verdicts.{check_status}
 use Rattle.ps_report.specs.declared.verdict.Verdict.{Verdict}
 use Rattle.ps_texts.specs.UnitNames.{bytes_of, names_had, names_wanted}
@@ -66,7 +66,7 @@ abbrev pub IsReportText : ReportText → Form → Bool → List (List ℕ) → L
     → List ℕ → Type 0
 IsReportText what form strict paths host libs status text =
     (r : Reported) × IsReport paths host libs r
-    × (status ≡ report_status what strict (warnings_of_files paths host libs) r.verdict)
+    × (status ≡ report_status what strict (warning_count r.findings) r.verdict)
     × (text ≡ report_bytes what form r)
 
 -- The text of a host and these libraries that has their paths. With `strict`, a warning counts for

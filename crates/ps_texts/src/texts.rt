@@ -194,7 +194,7 @@ fn report_of<'a, A: Allocator + Copy>(
     ensures { IfOk result (IsMadeOf (Named (OfReport what form)) (paths_in files.now)
         files.now.host.now (contents files.now.libs.now)) }
 {
-    let report = check(alloc, files.host_path, files.paths, files.host, files.libs)?;
+    let report = check(alloc, files)?;
     Ok(FilesText::Report(what, form, report))
 }
 

@@ -133,7 +133,8 @@ pub extern "C" fn pslink_fault_text_nonnull(answer: &Answer, out: &mut [u8]) -> 
 /// third.
 #[unsafe(no_mangle)]
 pub extern "C" fn pslink_release_number() -> u32
-    ensures { result ≡ RELEASE_NUMBER }
+    ensures named { result ≡ RELEASE_NUMBER }
+    ensures number { result ≡ 400 }
 {
     RELEASE_NUMBER
 }

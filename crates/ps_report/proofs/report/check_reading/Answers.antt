@@ -1,50 +1,23 @@
-use Rattle.std.proofs.Common.{◌≡◌, ◌∙◌, ◌∷◌, ◌++◌, [], List, None, ℕ, ap, false, map, string_bytes, subst, sym}
+use Rattle.std.proofs.Common.{◌≡◌, ◌∙◌, ◌++◌, [], List, None, ℕ, ap, false, string_bytes}
+use Rattle.ps_check_segments.specs.Paths.{paths_in}
 use Rattle.ps_resolve.specs.AllFaults.{reading_fault}
 use Rattle.ps_resolve.specs.Sources.{contents}
 use Rattle.ps_explained.specs.SegmentLines.{segment_lines}
-use Rattle.ps_explained.specs.SlotLines.{AddsSlotLines, slot_lines}
-use Rattle.ps_listing.specs.FileLists.{IsList}
-use Rattle.ps_listing.specs.declared.lists.ListForm.TheVariants.{Lines}
-use Rattle.ps_warnings.specs.Found.{about_link_in}
-use Rattle.ps_report.specs.Reported.{said, warning_count}
+use Rattle.ps_explained.specs.SlotLines.{slot_lines}
 use Rattle.ps_report.specs.Verdicts.{IsVerdict, fault_of}
-use Rattle.ps_report.specs.declared.verdict.Verdict.{Verdict}
-use Rattle.ps_resolve.specs.Readings.{ReadFiles}
 use Rattle.ps_report.specs.Lists.{lacks_host}
-use Rattle.ps_explained.specs.FileLines.{AreFileLines}
 use Rattle.ps_explained.proofs.SlotLines.{lines_in}
 use Rattle.ps_report.proofs.SegmentTexts.{links_of, no_lists}
 use Rattle.ps_report.proofs.Reports.{is_report}
-use Rattle.ps_report.proofs.Verdicts.{linked_or_not, refused_or_not, warned_or_refused}
 use Rattle.ps_report.proofs.report.check_reading.Goals as goal
 
--- the verdict on what was read of files is that on the files
-of_files : (host : List ℕ) (libs : List (List ℕ)) (verdict : Verdict) {f : ReadFiles}
-    → f ≡ record { host = host; libs = libs } → IsVerdict f.host f.libs verdict
-    → IsVerdict host libs verdict
-of_files host libs verdict is right =
-    subst (λ (g : ReadFiles). IsVerdict g.host g.libs verdict) is right
-
-pub returns-clause-links : goal.returns-clause-links
-returns-clause-links g c = linked_or_not c.args.host.now (contents c.args.libs.now)
-    (warning_count (map said c.in_ok-findings.findings.items)) c.in_ok-verdict.verdict
-    (of_files c.args.host.now (contents c.args.libs.now) c.in_ok-verdict.verdict
-    c.requires c.in_ok-verdict.ensures.right)
-
-pub returns-clause-refused : goal.returns-clause-refused
-returns-clause-refused g c = refused_or_not c.args.host.now (contents c.args.libs.now)
-    (warning_count (map said c.in_ok-findings.findings.items)) c.in_ok-verdict.verdict
-    (of_files c.args.host.now (contents c.args.libs.now) c.in_ok-verdict.verdict
-    c.requires c.in_ok-verdict.ensures.right)
-
-pub returns-clause-report : goal.returns-clause-report
-returns-clause-report g c =
-    let host = c.args.host.now in
-    let libs : List (List ℕ) = contents c.args.libs.now in
-    let paths : List (List ℕ) = c.args.host_path.now ∷ contents c.args.paths.now in
+pub returns : goal.returns
+returns g c =
+    let host = c.args.files.now.host.now in
+    let libs : List (List ℕ) = contents c.args.files.now.libs.now in
+    let paths : List (List ℕ) = paths_in c.args.files.now in
     let verdict = c.in_ok-verdict.verdict in
-    let right = of_files host libs verdict c.requires
-    c.in_ok-verdict.ensures.right in
+    let right : IsVerdict host libs verdict = rw c.requires at c.in_ok-verdict.ensures.right in
     let front = string_bytes c.in_ok-front.front in
     let told = c.in_ok-front.ensures in
     let found = c.in_ok-inspection.ensures in
@@ -66,16 +39,12 @@ returns-clause-report g c =
         lists = c.as_str-4.result.now;
       };
       are = record {
-        files = subst (λ (text : List ℕ). AreFileLines paths 0 (host ∷ libs) text)
-            (sym c.as_str.ensures.value) found.files;
+        files = rw c.as_str.ensures.value found.files;
         linked = shown;
         read = λ why is. ap slot_lines c.as_str-2.ensures.value ∙ found.read why is;
         told = c.as_str-2.ensures.value ∙ found.told;
         silent = silent;
-        listed =
-            λ lacks.
-            subst (λ (text : List ℕ). IsList Lines paths (host ∷ libs) text)
-            (sym c.as_str-4.ensures.value) (lists.lists lacks);
+        listed = λ lacks. rw c.as_str-4.ensures.value (lists.lists lacks);
         unlisted = unlisted;
       };
       parts = told.parts;
@@ -87,20 +56,11 @@ returns-clause-report g c =
           (λ step f reading stands. none step f stands) in
           let plain = ap slot_lines c.as_str.ensures.value
           ∙ lines_in (string_bytes c.in_ok-inspection.inspection.overview.files) [] found.silent in
-          subst (λ (ls : List (List ℕ)). AddsSlotLines [] ls front) (shown read)
-          (told.lines plain (silent links) (unlisted (no_lists verdict libs links)));
+          rw (shown read) at (told.lines plain (silent links)
+          (unlisted (no_lists verdict libs links)));
     })
     (c.in_ok-push_str.ensures.bytes
     ∙ ap (λ (t : List ℕ). front ++ t) (c.as_str-5.ensures.value ∙ c.in_ok-lines.ensures))
     right found.name
-    (ap about_link_in (worded.findings ∙ c.as_slice.ensures.value) ∙ found.findings)
-    worded.places worded.worded
-
-pub returns-clause-warned : goal.returns-clause-warned
-returns-clause-warned g c =
-    warned_or_refused (c.args.host_path.now ∷ contents c.args.paths.now) c.args.host.now
-    (contents c.args.libs.now) (warning_count (map said c.in_ok-findings.findings.items))
-    c.in_ok-verdict.verdict
-    (of_files c.args.host.now (contents c.args.libs.now) c.in_ok-verdict.verdict
-    c.requires c.in_ok-verdict.ensures.right)
-    (returns-clause-report g c).warnings
+    (rw (worded.findings, c.as_slice.ensures.value) found.said)
+    (rw (worded.findings, c.as_slice.ensures.value) found.ordered) worded.places worded.worded
