@@ -1,4 +1,3 @@
 pub mod CommandLine
 pub mod Outputs
-pub mod Tips
 pub mod Requests

@@ -1,8 +1,4 @@
 //! What was meant by arguments that clap refuses, where the program knows it.
-ghost use Rattle.std.specs.Prelude.{◌≡◌, IfOk, map, string_bytes};
-ghost use Rattle.std.specs.Str.{str_eq_ignore_ascii_case};
-ghost use Rattle.ps_arguments.specs.CommandLine.{texts};
-ghost use Rattle.ps_arguments.specs.Tips.{IsMeantBy, IsTip, command_in_letters, command_without_file, link_words, no_file_words, of_link_words, option_text, out_option as out_option_spec, out_option_among, similar_words, tip_text, version_words, word_asked, word_in as word_in_spec};
 
 use crate::command_line::CommandName;
 use crate::same_file::SameFile;
@@ -31,9 +27,7 @@ pub(crate) enum OutOption {
 }
 
 impl OutOption {
-    fn text(self) -> &'static str
-        ensures { result.now ≡ option_text self }
-    {
+    fn text(self) -> &'static str {
         match self {
             OutOption::Letter => "-o",
             OutOption::Word => "--output",
@@ -42,9 +36,7 @@ impl OutOption {
 }
 
 /// What was meant by the arguments of a program, of which the first is its name.
-pub(crate) fn tip_of<F: SameFile>(files: &F, args: &[&str]) -> Option<Tip>
-    ensures { IsTip (F.one_file files.now) (texts args.now) result }
-{
+pub(crate) fn tip_of<F: SameFile>(files: &F, args: &[&str]) -> Option<Tip> {
     let [_, first, rest @ ..] = args else {
         return None;
     };
@@ -58,9 +50,7 @@ pub(crate) fn tip_of<F: SameFile>(files: &F, args: &[&str]) -> Option<Tip>
 }
 
 /// The word that is taken for a command in the arguments of a program.
-pub(crate) fn word_in<'a>(args: &[&'a str]) -> &'a str
-    ensures { result.now ≡ word_in_spec (texts args.now) }
-{
+pub(crate) fn word_in<'a>(args: &[&'a str]) -> &'a str {
     match args {
         [_, first, rest @ ..] => word_of(first, rest),
         _ => "",
@@ -68,9 +58,7 @@ pub(crate) fn word_in<'a>(args: &[&'a str]) -> &'a str
 }
 
 /// The word that is taken for a command: the first, or that which the help is asked of.
-fn word_of<'a>(first: &'a str, rest: &[&'a str]) -> &'a str
-    ensures { result.now ≡ word_asked first.entry.now (map (λ word. word.now) rest.now) }
-{
+fn word_of<'a>(first: &'a str, rest: &[&'a str]) -> &'a str {
     match rest {
         [asked, ..] if first == "help" => asked,
         _ => first,
@@ -78,9 +66,7 @@ fn word_of<'a>(first: &'a str, rest: &[&'a str]) -> &'a str
 }
 
 /// What was meant by a word that stands where a command does.
-fn meant_by<F: SameFile>(files: &F, word: &str) -> Option<Tip>
-    ensures { IsMeantBy (F.one_file files.now) word.now result }
-{
+fn meant_by<F: SameFile>(files: &F, word: &str) -> Option<Tip> {
     if let Some(command) = in_letters(word) {
         return if word == command.text() {
             None
@@ -88,7 +74,7 @@ fn meant_by<F: SameFile>(files: &F, word: &str) -> Option<Tip>
             Some(Tip::Command(command))
         };
     }
-    if is_like(word, "version") {
+    if word.eq_ignore_ascii_case("version") {
         return Some(Tip::Version);
     }
     if files.lead_to_one_file(word, word) {
@@ -98,37 +84,21 @@ fn meant_by<F: SameFile>(files: &F, word: &str) -> Option<Tip>
 }
 
 /// The command of this name, in small letters or in capitals.
-fn in_letters(word: &str) -> Option<CommandName>
-    ensures { result ≡ command_in_letters word.now }
-{
-    if is_like(word, "link") {
-        Some(CommandName::Link)
-    } else if is_like(word, "map") {
-        Some(CommandName::Map)
-    } else if is_like(word, "show") {
-        Some(CommandName::Show)
-    } else if is_like(word, "check") {
-        Some(CommandName::Check)
-    } else if is_like(word, "list") {
-        Some(CommandName::List)
-    } else if is_like(word, "help") {
-        Some(CommandName::Help)
-    } else {
-        None
-    }
-}
-
-/// The word is this name, in small letters or in capitals.
-fn is_like(word: &str, name: &str) -> bool
-    ensures { result ≡ str_eq_ignore_ascii_case word.now name.now }
-{
-    word.eq_ignore_ascii_case(name)
+fn in_letters(word: &str) -> Option<CommandName> {
+    [
+        CommandName::Link,
+        CommandName::Map,
+        CommandName::Show,
+        CommandName::Check,
+        CommandName::List,
+        CommandName::Help,
+    ]
+    .into_iter()
+    .find(|command| word.eq_ignore_ascii_case(command.text()))
 }
 
 /// The command of this name, if it is one that writes no file.
-fn without_file(word: &str) -> Option<CommandName>
-    ensures { result ≡ command_without_file word.now }
-{
+fn without_file(word: &str) -> Option<CommandName> {
     match word {
         "map" => Some(CommandName::Map),
         "show" => Some(CommandName::Show),
@@ -139,9 +109,7 @@ fn without_file(word: &str) -> Option<CommandName>
 }
 
 /// The word is the option of OUT.
-fn out_option(word: &str) -> Option<OutOption>
-    ensures { result ≡ out_option_spec word.now }
-{
+fn out_option(word: &str) -> Option<OutOption> {
     match word {
         "-o" => Some(OutOption::Letter),
         "--output" => Some(OutOption::Word),
@@ -150,18 +118,11 @@ fn out_option(word: &str) -> Option<OutOption>
 }
 
 /// The first of the words that is the option of OUT; behind `--` none is an option.
-fn option_among(words: &[&str]) -> Option<OutOption>
-    ensures { result ≡ out_option_among (map (λ word. word.now) words.now) }
-{
-    for word in words {
-        if *word == "--" {
-            return None;
-        }
-        if let Some(option) = out_option(word) {
-            return Some(option);
-        }
-    }
-    None
+fn option_among(words: &[&str]) -> Option<OutOption> {
+    words
+        .iter()
+        .take_while(|word| **word != "--")
+        .find_map(|word| out_option(word))
 }
 
 impl Tip {
@@ -174,9 +135,7 @@ impl Tip {
     }
 
     /// What is said of the word that stands where a command does, in clap's words, with the tip.
-    pub(crate) fn message(self, heap: Global, word: &str) -> Result<String, AllocError>
-        ensures { IfOk result (λ text. string_bytes text ≡ tip_text self word.now) }
-    {
+    pub(crate) fn message(self, heap: Global, word: &str) -> Result<String, AllocError> {
         match self {
             Tip::Command(command) => similar_text(heap, word, command.text()),
             Tip::Version => version_text(heap, word),
@@ -187,39 +146,29 @@ impl Tip {
     }
 }
 
-fn similar_text(heap: Global, word: &str, name: &str) -> Result<String, AllocError>
-    ensures { IfOk result (λ text. string_bytes text ≡ similar_words word.now name.now) }
-{
+fn similar_text(heap: Global, word: &str, name: &str) -> Result<String, AllocError> {
     format!(in heap;
         "unrecognized subcommand '{word}'\n\n  tip: a similar subcommand exists: '{name}'"
     )
 }
 
-fn version_text(heap: Global, word: &str) -> Result<String, AllocError>
-    ensures { IfOk result (λ text. string_bytes text ≡ version_words word.now) }
-{
+fn version_text(heap: Global, word: &str) -> Result<String, AllocError> {
     format!(in heap;
         "unrecognized subcommand '{word}'\n\n  tip: a similar argument exists: '--version'"
     )
 }
 
-fn link_text(heap: Global, word: &str) -> Result<String, AllocError>
-    ensures { IfOk result (λ text. string_bytes text ≡ link_words word.now) }
-{
+fn link_text(heap: Global, word: &str) -> Result<String, AllocError> {
     format!(in heap;
         "unrecognized subcommand '{word}'\n\n  tip: to link files, use 'pslink link -o <OUT> <HOST> [LIB]...'"
     )
 }
 
-fn of_link_text(heap: Global, option: &str) -> Result<String, AllocError>
-    ensures { IfOk result (λ text. string_bytes text ≡ of_link_words option.now) }
-{
+fn of_link_text(heap: Global, option: &str) -> Result<String, AllocError> {
     format!(in heap; "unexpected argument '{option}' found\n\n  tip: 'link {option}' exists")
 }
 
-fn no_file_text(heap: Global, name: &str, option: &str) -> Result<String, AllocError>
-    ensures { IfOk result (λ text. string_bytes text ≡ no_file_words name.now option.now) }
-{
+fn no_file_text(heap: Global, name: &str, option: &str) -> Result<String, AllocError> {
     format!(in heap;
         "unexpected argument '{option}' found\n\n  tip: {name} writes no file: leave {option} OUT out"
     )

@@ -1,6 +1,6 @@
 -- What follows of a link that was asked for.
-use Rattle.std.proofs.Common.{◌≡◌, ◌⊎◌, ◌∷◌, Bool, List, None, Option, Some, arith, codes, false, inl, inr, map, refl, true, ℕ}
-use Rattle.std.specs.Prelude.{IsSomeAnd, option_map}
+use Rattle.std.proofs.Common.{◌≡◌, ◌∷◌, Bool, List, None, Option, Some, arith, codes, false, inl, inr, map, refl, true, ℕ}
+use Rattle.std.specs.Prelude.{option_map}
 use Rattle.std.specs.List.{AllZip}
 use Rattle.ps_arguments.specs.CommandLine.{Row, Text}
 use Rattle.ps_arguments.specs.Outputs.{form_of, has_references, is_json, link_options, map_content}
@@ -54,21 +54,6 @@ pub not_output : (f : Fault) (e : Unlinked) → e ≡ unlinked.Refused f
     → e ≡ unlinked.StandardOutput → ⊥
 not_output f e is output = grind arith
 
--- a path that leads to standard output, where a file is known that does
-some_path : (Leads : Text → Bool → Type 0) (file : Option Text)
-    → IsSomeAnd file (λ path. Leads path true) → (path : Text) × Leads path true
-some_path Leads None led = absurd led
-some_path Leads (Some path) led = (path, led)
-
--- a link whose summary is printed on standard error has such a path
-pub leading : {Same : Type 0} (world : World) (named : Option (Text × List Row))
-    → Same ⊎ TellsOnError world named → Same ⊎ ((path : Text) × world.leads path true)
-leading world named (inl same) = inl same
-leading world named (inr told) = elim told.5.1 [
-  | inl by_option ↦ inr (told.1, by_option.1)
-  | inr map ↦ inr (some_path world.leads (map_file told.0) map)
-]
-
 -- with nothing known of its files, a link that wrote them did so at any time
 apart_unknown : {S T : Type 0} (map : Option Text) (out : Text) (file : List ℕ) (s : S) (t : T)
     → MapIsApart {S = S} (λ _. unknown_world) map out file s
@@ -78,10 +63,10 @@ apart_unknown (Some map) out file s t apart = (t, tt, tt)
 
 -- what is printed of unknown files is so at any time
 pub prints_unknown : {S T : Type 0} (named : Option (Text × List Row)) (status : ℕ) (before after : S)
-    (now : T) (old new old_err new_err : Option (List ℕ))
-    → Prints {S = S} (λ _. unknown_world) named status before after old new old_err new_err
-    → Prints {S = T} (λ _. unknown_world) named status now now old new old_err new_err
-prints_unknown named status before after now old new old_err new_err prints = (
+    (now : T) (Same : Type 0) (old new old_err new_err : Option (List ℕ))
+    → Prints {S = S} (λ _. unknown_world) named status before after Same old new old_err new_err
+    → Prints {S = T} (λ _. unknown_world) named status now now Same old new old_err new_err
+prints_unknown named status before after now Same old new old_err new_err prints = (
   prints.0,
   prints.1,
   elim prints.2 [
@@ -143,14 +128,15 @@ module _ {S A : Type 0} (world : S → World) (before : S) (link : Link A) (rows
 
   -- a link of files that were read ends as the link that is asked for
   pub links_or_refuses : (after : S) (host : List ℕ) (libs : List (List ℕ)) (e : Ended)
-      (old new old_err new_err : Option (List ℕ)) → Reads (world before) link.inputs.host.now host
+      (Same : Type 0) (old new old_err new_err : Option (List ℕ))
+      → Reads (world before) link.inputs.host.now host
       → AllZip (Reads (world before)) (map (λ path. path.now) link.inputs.libraries.items) libs
       → IsLinked world link
       (link.inputs.host.now ∷ map (λ path. path.now) link.inputs.libraries.items) host libs e
-      before after old new old_err new_err
-      → LinksOrRefuses world rows link.inputs.host.now (ended_status e) before after old new
+      before after Same old new old_err new_err
+      → LinksOrRefuses world rows link.inputs.host.now (ended_status e) before after Same old new
       old_err new_err
-  links_or_refuses after host libs ended.Done old new old_err new_err read all linked =
+  links_or_refuses after host libs ended.Done Same old new old_err new_err read all linked =
       let paths = map (λ path. path.now) link.inputs.libraries.items in
       let wrote = linked.0 in
       let file = option_map (λ path. path.now) link.outputs.map in
@@ -185,17 +171,17 @@ module _ {S A : Type 0} (world : S → World) (before : S) (link : Link A) (rows
           rw names.outputs.options at told,
         ),
       )
-  links_or_refuses after host libs ended.Refused old new old_err new_err read all refused =
+  links_or_refuses after host libs ended.Refused Same old new old_err new_err read all refused =
       let paths = map (λ path. path.now) link.inputs.libraries.items in
-      let told = rw (names.outputs.options, by_json rows) at refused.2 in
+      let printed = rw (names.outputs.options, by_json rows) at refused.2 in
       inr (
         link.outputs.out.now,
         paths,
         names.files,
-        (refl, host, libs, refused.0, read, all, refused.1, told),
-        refused.3,
+        (refl, host, libs, refused.0, read, all, refused.1, printed, refused.3),
+        refused.4,
       )
-  links_or_refuses after host libs ended.Unread old new old_err new_err read all none =
+  links_or_refuses after host libs ended.Unread Same old new old_err new_err read all none =
       absurd none
 
   -- a link of files that were read leaves a part of what the link that is asked for writes

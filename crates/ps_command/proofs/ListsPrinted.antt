@@ -1,5 +1,5 @@
 -- The lists of files, one after another.
-use Rattle.std.proofs.Common.{◌≡◌, ◌∙◌, ◌==◌, ◌||◌, not, ℕ, Bool, Err, IfOk, List, [], ◌∷◌, Ok, OnErr, OnOk, Option, Result, ap, arith, false, inl, inr, length, refl, true}
+use Rattle.std.proofs.Common.{◌≡◌, ◌∙◌, ◌==◌, ◌||◌, ◌++◌, not, ℕ, Bool, Err, IfOk, List, [], ◌∷◌, Ok, OnOk, Option, Result, ap, arith, false, inl, inr, length, refl, true}
 use Rattle.std.specs.Prelude.{if◌then◌else◌, max}
 use Rattle.std.specs.Io.KnownBytes.{Appends}
 use Rattle.std.proofs.lemmas.Bool.Decides.{nat_tests}
@@ -11,8 +11,8 @@ use Rattle.ps_listing.specs.LoneText.{has_no_sound, units_in_entries}
 use Rattle.ps_listing.specs.Phrases.{IsPhrase}
 use Rattle.ps_listing.specs.declared.lists.ListForm.{ListForm}
 use Rattle.ps_listing.specs.declared.lists.ListForm.TheVariants as form
-use Rattle.ps_writing.specs.Prefixes.{AppendsPrefix}
-use Rattle.ps_command.specs.Failures.{CutsDocument, CutsFiles, CutsListed, CutsUnread}
+use Rattle.ps_writing.proofs.Prefixes.{appends_twice}
+use Rattle.ps_command.specs.Failures.{TakesMore}
 use Rattle.ps_command.specs.Lists.{IsListText, list_status}
 use Rattle.ps_command.specs.ReadFaults.{IsNotRead}
 use Rattle.ps_output_files.specs.World.{Reads, World}
@@ -20,6 +20,11 @@ use Rattle.ps_command.specs.Printed.{IsListed, PrintsDocument, PrintsFiles, Prin
 use Rattle.ps_command.specs.Statuses.{ended_status}
 use Rattle.ps_command.specs.declared.ended.Ended.{Ended}
 use Rattle.ps_command.specs.declared.ended.Ended.TheVariants as ended
+
+-- some bytes were taken, and then some more
+pub took_twice : (a b c : Option (List ℕ)) → TakesMore a b → TakesMore b c → TakesMore a c
+took_twice a b c first more =
+    (first.0 ++ more.0, appends_twice a b c first.0 more.0 first.1 more.1)
 
 -- a phrase of no byte is none
 no_phrase : (phrase : List ℕ) → (length phrase == 0) ≡ true → phrase ≡ []
@@ -68,68 +73,41 @@ text_of_list how first path phrase file false is said =
 
 module _ (world : World) (how : ListForm)
     (first : Bool) (path : Text) where
-  -- a file was read, and its list printed, or a prefix of it
+  -- a file was read, and its list printed
   pub one_listed : {E : Type 0} (file : List ℕ) (l : Listed) (r : Result Ended E)
       (old new : Option (List ℕ)) → Reads world path file → l.how ≡ how → l.path ≡ path → l.file ≡ file
       → IsPhrase file l.phrase
       → IfOk r (λ e. ended_status e ≡ (if is_refused_in l then 1 else 0))
-      → OnOk r (Appends old new (listed first l)) → OnErr r (AppendsPrefix old new (listed first l))
+      → OnOk r (Appends old new (listed first l))
       → IfOk r (λ e. IsListed world how first path (ended_status e) old new)
-      × OnErr r (CutsListed world how first path old new)
-  one_listed file l (Ok e) old new read how_is path_is file_is said ends prints cut =
+  one_listed file l (Ok e) old new read how_is path_is file_is said ends prints =
       let status : ended_status e ≡ (if is_refused_as_listed how l.phrase file then 1 else 0) =
       rw (how_is, file_is) at ends in
       let text : Appends old new (listed_as how first path l.phrase file) =
-      rw (how_is, path_is, file_is) at prints in (
-        inl (
-          file,
-          listed_as how first path l.phrase file,
-          read,
-          status ∙ status_of_list how l.phrase file said,
-          text_of_list how first path l.phrase file (is_code_type file) refl said,
-          text,
-        ),
-        tt,
+      rw (how_is, path_is, file_is) at prints in inl (
+        file,
+        listed_as how first path l.phrase file,
+        read,
+        status ∙ status_of_list how l.phrase file said,
+        text_of_list how first path l.phrase file (is_code_type file) refl said,
+        text,
       )
-  one_listed file l (Err e) old new read how_is path_is file_is said ends prints cut =
-      let text : AppendsPrefix old new (listed_as how first path l.phrase file) =
-      rw (how_is, path_is, file_is) at cut in (
-        tt,
-        inl (
-          file,
-          listed_as how first path l.phrase file,
-          read,
-          text_of_list how first path l.phrase file (is_code_type file) refl said,
-          text,
-        ),
-      )
+  one_listed file l (Err e) old new read how_is path_is file_is said ends prints = tt
 
-  -- a file was not read, and what there is of it printed, or a prefix of that
+  -- a file was not read, and what there is of it printed
   pub one_unread : {E : Type 0} (r : Result Ended E) (old new : Option (List ℕ)) → IsNotRead world path
       → IfOk r (λ e. e ≡ ended.Unread) → OnOk r (PrintsUnread how first path old new)
-      → OnErr r (CutsUnread how first path old new)
       → IfOk r (λ e. IsListed world how first path (ended_status e) old new)
-      × OnErr r (CutsListed world how first path old new)
-  one_unread (Ok e) old new unread is prints cut = (inr (ap ended_status is, unread, prints), tt)
-  one_unread (Err e) old new unread is prints cut = (tt, inr (unread, cut))
+  one_unread (Ok e) old new unread is prints = inr (ap ended_status is, unread, prints)
+  one_unread (Err e) old new unread is prints = tt
 
-module _ (world : World) (how : ListForm) (all : List Text) where
-  -- a document was printed, or a prefix of it: of what is before its items, of these, or of the rest
-  pub whole_document : (status : ℕ) (old started ended new : Option (List ℕ))
-      → Appends old started document_start → PrintsFiles world how true all status started ended
-      → Appends ended new document_end → PrintsDocument world how all status old new
-  whole_document status old started ended new start items rest =
-      (started, ended, start, items, rest)
-
-  pub cut_items : (old started new : Option (List ℕ)) → Appends old started document_start
-      → CutsFiles world how true all started new → CutsDocument world how all old new
-  cut_items old started new start cut = inr (started, start, inl cut)
-
-  pub cut_rest : (status : ℕ) (old started ended new : Option (List ℕ))
-      → Appends old started document_start → PrintsFiles world how true all status started ended
-      → AppendsPrefix ended new document_end → CutsDocument world how all old new
-  cut_rest status old started ended new start items cut =
-      inr (started, start, inr (status, ended, items, cut))
+-- a document was printed
+pub whole_document : (world : World) (how : ListForm) (all : List Text) (status : ℕ)
+    (old started ended new : Option (List ℕ)) → Appends old started document_start
+    → PrintsFiles world how true all status started ended → Appends ended new document_end
+    → PrintsDocument world how all status old new
+whole_document world how all status old started ended new start items rest =
+    (started, ended, start, items, rest)
 
 module _ (world : World) (how : ListForm)
     (all : List Text) (old : Option (List ℕ)) where
@@ -141,9 +119,6 @@ module _ (world : World) (how : ListForm)
       pub rest : (more : ℕ) (new : Option (List ℕ))
           → PrintsFiles world how is_first left more now new
           → PrintsFiles world how true all (max status more) old new
-      -- and what is printed in part
-      pub cut : (new : Option (List ℕ)) → CutsFiles world how is_first left now new
-          → CutsFiles world how true all old new
 
   pub listed_more : (is_first : Bool) (path : Text) (left : List Text) (status first : ℕ)
       (before between : Option (List ℕ))
@@ -155,5 +130,4 @@ module _ (world : World) (how : ListForm)
         let worst : max status (max first more) ≡ max (max status first) more = omega arith in
         rw worst at (so_far.rest (max first more) new
         (first, more, between, listed, printed, refl));
-    cut = λ new some. so_far.cut new (inr (first, between, listed, some));
   }

@@ -5,15 +5,11 @@ use Rattle.std.specs.List.{AllZip}
 use Rattle.std.specs.Io.KnownBytes.{Appends}
 use Rattle.ps_arguments.specs.CommandLine.{Kinds, Row, Text, faults_in, named_in}
 use Rattle.ps_arguments.specs.Outputs.{form_of, has_references, is_json, is_strict, is_unit, link_options}
-use Rattle.ps_arguments.specs.Requests.{EndsWithLine, MayAskForHelp, MayAskForVersion, file_of, files_of, host_of, libraries_of, map_file, out_and_libraries}
+use Rattle.ps_arguments.specs.Requests.{EndsWithLine, MayAskForHelp, MayAskForVersion, file_of, host_of, libraries_of, map_file, out_and_libraries}
 use Rattle.ps_words.specs.declared.fault.Fault.{Fault}
 use Rattle.ps_writing.specs.Prefixes.{AppendsPrefix}
 use Rattle.ps_writing.specs.declared.rows.Form.TheVariants.{Lines}
 use Rattle.ps_linkfile.specs.LinkedFile.{LinkedFile, summary_of}
-use Rattle.ps_filetype.specs.CodeTypes.{is_code_type}
-use Rattle.ps_listing.specs.FileLists.{unread}
-use Rattle.ps_listing.specs.declared.lists.ListForm.{ListForm}
-use Rattle.ps_listing.specs.declared.lists.ListForm.TheVariants as form
 use Rattle.ps_resolve.specs.FaultNames.{fault_name}
 use Rattle.ps_texts.specs.Paths.{path_of}
 use Rattle.ps_texts.specs.Texts.{IsTextOf}
@@ -30,9 +26,8 @@ use Rattle.ps_output_files.specs.SummaryLine.{summary_text}
 use Rattle.ps_output_files.specs.Unwritten.{FailsToWrite}
 use Rattle.ps_output_files.specs.World.{Reads, World}
 use Rattle.ps_output_files.specs.declared.linking.Place.TheVariants as place
-use Rattle.ps_command.specs.Lists.{IsListText}
-use Rattle.ps_command.specs.Printed.{IsListed, IsMapNamed, PrintsFiles, document_end, document_start, list_form, map_kind, refusal_json, units_form, version_line}
-use Rattle.ps_command.specs.ReadFaults.{IsNotRead, IsReadFault}
+use Rattle.ps_command.specs.Printed.{IsMapNamed, map_kind, refusal_json, version_line}
+use Rattle.ps_command.specs.ReadFaults.{IsReadFault}
 use Rattle.ps_command.specs.declared.files.FileFault.{FileFault}
 use Rattle.ps_command.specs.declared.files.FileFault.TheVariants as fault
 
@@ -95,46 +90,9 @@ FailsToLink world rows path before after old new =
     × AllZip (Reads (world before)) libraries libs
     × FailsRead world rows path out libraries host libs before after old new))
 
--- by a prefix of the item of a file that cannot be read; in lines nothing is printed of it
-abbrev pub CutsUnread : ListForm → Bool → Text → Option (List ℕ) → Option (List ℕ) → Type 0
-CutsUnread form.Json first path old new = AppendsPrefix old new (unread first path)
-CutsUnread form.JsonUnits first path old new = AppendsPrefix old new (unread first path)
-CutsUnread how first path old new = ⊥
-
--- by a prefix of the list of the file at a path
-abbrev pub CutsListed : World → ListForm → Bool → Text → Option (List ℕ) → Option (List ℕ)
-    → Type 0
-CutsListed world how first path old new =
-    ((file : List ℕ) × (text : List ℕ) × Reads world path file
-    × IsListText (is_code_type file) how first path file text × AppendsPrefix old new text)
-    ⊎ (IsNotRead world path × CutsUnread how first path old new)
-
--- by the lists of the first of these files, whole, and a prefix of that of the next
-abbrev pub CutsFiles : World → ListForm → Bool → List Text → Option (List ℕ) → Option (List ℕ)
-    → Type 0
-CutsFiles world how is_first [] old new = ⊥
-CutsFiles world how is_first (path ∷ paths) old new =
-    CutsListed world how is_first path old new
-    ⊎ ((status : ℕ) × (between : Option (List ℕ))
-    × IsListed world how is_first path status old between
-    × CutsFiles world how false paths between new)
-
--- by a prefix of the document of lists, before its items, in one of them, or after them
-abbrev pub CutsDocument : World → ListForm → List Text → Option (List ℕ) → Option (List ℕ)
-    → Type 0
-CutsDocument world how paths old new = AppendsPrefix old new document_start
-    ⊎ ((started : Option (List ℕ)) × Appends old started document_start × (
-    CutsFiles world how true paths started new
-    ⊎ ((status : ℕ) × (ended : Option (List ℕ))
-    × PrintsFiles world how true paths status started ended
-    × AppendsPrefix ended new document_end)))
-
--- by a prefix of the lists of the files at these paths, or of one document of them: standard output
--- failed
-abbrev pub CutsLists : World → ListForm → List Text → Option (List ℕ) → Option (List ℕ) → Type 0
-CutsLists world form.Json paths old new = CutsDocument world form.Json paths old new
-CutsLists world form.JsonUnits paths old new = CutsDocument world form.JsonUnits paths old new
-CutsLists world how paths old new = CutsFiles world how true paths old new
+-- a known standard output took some bytes more
+abbrev pub TakesMore : Option (List ℕ) → Option (List ℕ) → Type 0
+TakesMore old new = (bytes : List ℕ) × Appends old new bytes
 
 -- why a check is not done, of a host and libraries, or of units by themselves
 abbrev pub FailsToCheck : World → Bool → Text → List Text → Bool → Bool → Option (List ℕ)
@@ -142,10 +100,10 @@ abbrev pub FailsToCheck : World → Bool → Text → List Text → Bool → Boo
 FailsToCheck world false path paths strict json old new =
     FailsToPrint world (kind.Named (of_named.OfReport of_report.Whole (form_of json))) strict false
     path paths old new
-FailsToCheck world true path paths strict json old new =
-    CutsLists world (units_form json) (path ∷ paths) old new
+FailsToCheck world true path paths strict json old new = TakesMore old new
 
--- why the command that is named is not done
+-- why the command that is named is not done: of lists it is only said that standard output took some
+-- bytes more
 abbrev pub FailsNamed : {S : Type 0} → (S → World) → Option (Text × List Row) → S → S
     → Option (List ℕ) → Option (List ℕ) → Type 0
 FailsNamed world named before after old new =
@@ -161,8 +119,7 @@ FailsNamed world named before after old new =
     ⊎ ((named ≡ Some (codes "check", rows)) × (host_of rows ≡ Some path)
     × FailsToCheck (world before) (is_unit rows) path (libraries_of rows) (is_strict rows)
     (is_json rows) old new)
-    ⊎ ((named ≡ Some (codes "list", rows))
-    × CutsLists (world before) (list_form (is_json rows)) (files_of rows) old new))
+    ⊎ ((named ≡ Some (codes "list", rows)) × TakesMore old new))
 
 -- by a prefix of the line of the version, or of the help
 abbrev pub CutsHelp : Kinds → Option (List ℕ) → Option (List ℕ) → Type 0

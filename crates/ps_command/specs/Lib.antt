@@ -5,3 +5,4 @@ pub mod Statuses
 pub mod Causes
 pub mod Failures
 pub mod Links
+pub mod Told

@@ -19,6 +19,7 @@ use Rattle.ps_writing.specs.declared.rows.Form.{Form}
 use Rattle.ps_writing.specs.declared.rows.Form.TheVariants.{Lines, Json}
 use Rattle.ps_command.specs.Failures.{CutsFault}
 use Rattle.ps_command.specs.Printed.{PrintsFault}
+use Rattle.ps_command.specs.Told.{TellsFault}
 use Rattle.ps_command.specs.declared.ended.Ended.{Ended}
 use Rattle.ps_command.specs.declared.ended.Ended.TheVariants as ended
 
@@ -30,17 +31,18 @@ is_document Json = true
 -- how the link of these files ended: its linked file and its map are written and its summary is
 -- printed; or they are refused, and no file was created
 abbrev pub IsLinked : {S A : Type 0} → (S → World) → Link A → List Text → List ℕ → List (List ℕ)
-    → Ended → S → S → Option (List ℕ) → Option (List ℕ) → Option (List ℕ) → Option (List ℕ)
-    → Type 0
-IsLinked world link paths host libs ended.Done before after old new old_err new_err =
+    → Ended → S → S → Type 0 → Option (List ℕ) → Option (List ℕ) → Option (List ℕ)
+    → Option (List ℕ) → Type 0
+IsLinked world link paths host libs ended.Done before after Same old new old_err new_err =
     WritesLink world link.outputs host libs before after
     × PrintsPlaced (world before) link.outputs (summary_of host libs) old new old_err new_err
-IsLinked world link paths host libs ended.Refused before after old new old_err new_err =
+IsLinked world link paths host libs ended.Refused before after Same old new old_err new_err =
     (f : Fault) × CanRefuse (OfLink Map Lines) host libs f
     × PrintsFault (is_document link.outputs.options.form) paths (Some link.outputs.out.now)
-    (fault_name host libs f) f old new
+    (fault_name host libs f) f Same old new
+    × TellsFault f old_err new_err
     × ((world after).log ≡ (world before).log)
-IsLinked world link paths host libs ended.Unread before after old new old_err new_err = ⊥
+IsLinked world link paths host libs ended.Unread before after Same old new old_err new_err = ⊥
 
 -- what was created by a link of these files that did not write all: a part of what is to be written
 abbrev pub LeavesPart : {A : Type 0} → Link A → List ℕ → List (List ℕ) → Log → Log → Type 0

@@ -32,6 +32,7 @@ use Rattle.ps_arguments.specs.Outputs.{form_of, has_output, has_references, is_j
 use Rattle.ps_arguments.specs.Requests.{EndsWithLine, IsApartFrom, IsNoHost, IsOther, MayAskForHelp, MayAskForVersion, file_of, files_of, host_of, libraries_of, map_file, out_and_libraries}
 use Rattle.ps_command.specs.Lists.{IsListText, list_status}
 use Rattle.ps_command.specs.ReadFaults.{IsNotRead}
+use Rattle.ps_command.specs.Told.{TellsFault}
 use Rattle.ps_output_files.specs.declared.linking.Place.{Place}
 use Rattle.ps_output_files.specs.declared.linking.Place.TheVariants as place
 
@@ -116,46 +117,49 @@ abbrev pub refusal_json : Text → Option Text → Option (List ℕ) → Fault �
 refusal_json path out name f = codes "{\"path\":\"" ++ json_text path ++ codes "\""
     ++ out_json out ++ codes ",\"fault\":" ++ fault_json name f ++ codes "}\n"
 
--- by that document, if a document is asked for, and else by nothing
-abbrev pub PrintsFault : Bool → List Text → Option Text → Option (List ℕ) → Fault → Option (List ℕ)
-    → Option (List ℕ) → Type 0
-PrintsFault true paths out name f old new =
+-- by that document, if a document is asked for, and else by nothing: standard output is as it was,
+-- which `Same` says of any writer
+abbrev pub PrintsFault : Bool → List Text → Option Text → Option (List ℕ) → Fault → Type 0
+    → Option (List ℕ) → Option (List ℕ) → Type 0
+PrintsFault true paths out name f Same old new =
     Appends old new (refusal_json (path_of paths f.file) out name f)
-PrintsFault false paths out name f old new = new ≡ old
+PrintsFault false paths out name f Same old new = Same
 
 -- so, of files that were read at these paths, with status 1: of their faults it is the one for which this
--- text of them is not made
-abbrev pub PrintsRefusal : World → TextKind → Bool → Text → List Text → Option Text → ℕ
-    → Option (List ℕ) → Option (List ℕ) → Type 0
-PrintsRefusal world k json path paths out status old new =
+-- text of them is not made, and its line is written to standard error
+abbrev pub PrintsRefusal : World → TextKind → Bool → Text → List Text → Option Text → ℕ → Type 0
+    → Option (List ℕ) → Option (List ℕ) → Option (List ℕ) → Option (List ℕ) → Type 0
+PrintsRefusal world k json path paths out status Same old new old_err new_err =
     (status ≡ 1) × (host : List ℕ) × (libs : List (List ℕ)) × (f : Fault)
     × Reads world path host × AllZip (Reads world) paths libs × CanRefuse k host libs f
-    × PrintsFault json (path ∷ paths) out (fault_name host libs f) f old new
+    × PrintsFault json (path ∷ paths) out (fault_name host libs f) f Same old new
+    × TellsFault f old_err new_err
 
 -- a text of files is printed, or that they are refused
-abbrev pub IsPrinted : TextKind → Bool → Bool → List Text → List ℕ → List (List ℕ) → ℕ
-    → Option (List ℕ) → Option (List ℕ) → Type 0
-IsPrinted k strict json paths host libs status old new =
+abbrev pub IsPrinted : TextKind → Bool → Bool → List Text → List ℕ → List (List ℕ) → ℕ → Type 0
+    → Option (List ℕ) → Option (List ℕ) → Option (List ℕ) → Option (List ℕ) → Type 0
+IsPrinted k strict json paths host libs status Same old new old_err new_err =
     ((text : List ℕ) × IsTextOf k strict paths host libs status text × Appends old new text)
     ⊎ ((status ≡ 1) × (f : Fault) × CanRefuse k host libs f
-    × PrintsFault json paths None (fault_name host libs f) f old new)
+    × PrintsFault json paths None (fault_name host libs f) f Same old new
+    × TellsFault f old_err new_err)
 
 -- by a text; or the files are refused
-abbrev pub PrintsOrRefuses : World → TextKind → Bool → Text → List Text → ℕ → Option (List ℕ)
-    → Option (List ℕ) → Type 0
-PrintsOrRefuses world k json path paths status old new =
+abbrev pub PrintsOrRefuses : World → TextKind → Bool → Text → List Text → ℕ → Type 0
+    → Option (List ℕ) → Option (List ℕ) → Option (List ℕ) → Option (List ℕ) → Type 0
+PrintsOrRefuses world k json path paths status Same old new old_err new_err =
     PrintsTextOf world k false path paths status old new
-    ⊎ PrintsRefusal world k json path paths None status old new
+    ⊎ PrintsRefusal world k json path paths None status Same old new old_err new_err
 
 -- by a summary; or the files are refused, and no file was created
-abbrev pub LinksOrRefuses : {S : Type 0} → (S → World) → List Row → Text → ℕ → S → S
+abbrev pub LinksOrRefuses : {S : Type 0} → (S → World) → List Row → Text → ℕ → S → S → Type 0
     → Option (List ℕ) → Option (List ℕ) → Option (List ℕ) → Option (List ℕ) → Type 0
-LinksOrRefuses world rows path status before after old new old_err new_err =
+LinksOrRefuses world rows path status before after Same old new old_err new_err =
     ((status ≡ 0) × PrintsLink world rows path before after old new old_err new_err)
     ⊎ ((out : Text) × (libraries : List Text)
     × (out_and_libraries rows ≡ Some (out, libraries))
     × PrintsRefusal (world before) (kind.OfLink of_link.Map Lines) (is_json rows) path libraries
-    (Some out) status old new
+    (Some out) status Same old new old_err new_err
     × ((world after).log ≡ (world before).log))
 
 -- by nothing, where the file at a path cannot be read; or in a document by an item that says so
@@ -231,19 +235,21 @@ PrintsCheck world true path paths strict json status old new =
     PrintsLists world (units_form json) (path ∷ paths) status old new
 
 -- by what the command that is named prints of the files that are named for it, which ends with this
--- status; of standard error it says only what a link prints there. No command but a link creates a file.
-abbrev pub Prints : {S : Type 0} → (S → World) → Option (Text × List Row) → ℕ → S → S
+-- status; `Same` says that standard output is as it was. Of standard error it says only what a link
+-- prints there, and what is told of files that a link, a map or a show refuses. No command but a link
+-- creates a file.
+abbrev pub Prints : {S : Type 0} → (S → World) → Option (Text × List Row) → ℕ → S → S → Type 0
     → Option (List ℕ) → Option (List ℕ) → Option (List ℕ) → Option (List ℕ) → Type 0
-Prints world named status before after old new old_err new_err =
+Prints world named status before after Same old new old_err new_err =
     (rows : List Row) × (path : Text) × (
     ((named ≡ Some (codes "link", rows)) × (host_of rows ≡ Some path)
-    × LinksOrRefuses world rows path status before after old new old_err new_err)
+    × LinksOrRefuses world rows path status before after Same old new old_err new_err)
     ⊎ ((named ≡ Some (codes "map", rows)) × (host_of rows ≡ Some path)
     × PrintsOrRefuses (world before) (map_kind (has_references rows) (is_json rows)) (is_json rows)
-    path (libraries_of rows) status old new)
+    path (libraries_of rows) status Same old new old_err new_err)
     ⊎ ((named ≡ Some (codes "show", rows)) × (file_of rows ≡ Some path)
     × PrintsOrRefuses (world before) (kind.OfHost (of_host.Show (form_of (is_json rows))))
-    (is_json rows) path [] status old new)
+    (is_json rows) path [] status Same old new old_err new_err)
     ⊎ ((named ≡ Some (codes "check", rows)) × (host_of rows ≡ Some path)
     × PrintsCheck (world before) (is_unit rows) path (libraries_of rows) (is_strict rows)
     (is_json rows) status old new)

@@ -14,7 +14,6 @@ ended_status ended.Unread = 3
 
 -- by the error of its command
 abbrev pub status_of : CommandError → ℕ
-status_of (error.Refused fault) = 1
 status_of (error.Usage text) = 2
 status_of (error.NotText argument) = 2
 status_of (error.Read path) = 3

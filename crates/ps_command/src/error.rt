@@ -10,7 +10,6 @@ ghost use Rattle.ps_command.specs.Statuses.{status_of};
 
 use ps_arguments::{UsageError, UsageText, WrongArgument};
 use ps_filetype::ShownPath;
-use ps_words::Fault;
 use ps_writing::WriteFault;
 use std::alloc::{AllocError, AllocFailed};
 use std::fmt::{self, Formatter};
@@ -78,7 +77,6 @@ impl<'a> FileError<'a> {
     /// What is reported where no cause is named.
     fn told(self) -> CommandError<'a>
         ensures error { result ≡ told_of_file self.entry }
-        ensures unrefused { status_of result ≢ 1 }
         ensures right { status_of result ≢ 2 }
     {
         match self {
@@ -91,7 +89,6 @@ impl<'a> FileError<'a> {
     /// What is reported where the cause is named.
     fn told_with_cause(self) -> CommandError<'a>
         ensures error { result ≡ told_with_cause_spec self.entry }
-        ensures unrefused { status_of result ≢ 1 }
         ensures right { status_of result ≢ 2 }
     {
         match self {
@@ -148,12 +145,10 @@ impl From<WriteFault> for RunError<'_> {
     }
 }
 
-/// Each text that the program writes to standard error, with what the text names.
+/// Each text that the program writes to standard error, but for the line of files that are refused, with
+/// what the text names.
 #[derive(Drop, Error)]
 pub(crate) enum CommandError<'a> {
-    /// The files are refused.
-    #[error("pslink: {0}")]
-    Refused(Fault),
     /// The program does not accept the arguments of the command line.
     #[error("{0}")]
     Usage(UsageText),
@@ -200,7 +195,7 @@ impl From<WriteFault> for CommandError<'_> {
 }
 
 impl From<UsageError> for CommandError<'_> {
-    ghost from_gives = { λ error e. (e ≡ told_of_usage error) × (error ≡ usage.Memory → e ≡ told.Memory) × (status_of e ≢ 1) × (status_of e ≢ 3) };
+    ghost from_gives = { λ error e. (e ≡ told_of_usage error) × (error ≡ usage.Memory → e ≡ told.Memory) × (status_of e ≢ 3) };
 
     fn from(error: UsageError) -> Self {
         match error {
@@ -212,7 +207,7 @@ impl From<UsageError> for CommandError<'_> {
 }
 
 impl<'a> From<RunError<'a>> for CommandError<'a> {
-    ghost from_gives = { λ error e. (e ≡ told_of error) × (error ≡ run.StandardOutput → status_of e ≡ 3) × (status_of e ≢ 1) × (status_of e ≢ 2) };
+    ghost from_gives = { λ error e. (e ≡ told_of error) × (error ≡ run.StandardOutput → status_of e ≡ 3) × (status_of e ≢ 2) };
 
     fn from(error: RunError<'a>) -> Self {
         match error {
@@ -227,11 +222,11 @@ impl<'a> From<RunError<'a>> for CommandError<'a> {
 
 impl CommandError<'_> {
     /// What the process ends with.
-    pub(crate) fn status(&self) -> u8
-        ensures { result ≡ status_of self.now }
+    fn status(&self) -> u8
+        ensures value { result ≡ status_of self.now }
+        ensures unrefused { result ≢ 1 }
     {
         match self {
-            CommandError::Refused(_) => 1,
             CommandError::Usage(_) | CommandError::NotText(_) => 2,
             CommandError::Read { .. }
             | CommandError::Unreadable { .. }
@@ -244,7 +239,8 @@ impl CommandError<'_> {
 
     /// Writes the text, and returns the status. If the text cannot be written, that is ignored.
     pub(crate) fn report<E: Write>(&self, err: &mut E) -> u8
-        ensures { result ≡ status_of self.now }
+        ensures status { result ≡ status_of self.now }
+        ensures unrefused { result ≢ 1 }
     {
         // The text of wrong usage ends with a line end of its own.
         let _ = match self {

@@ -32,8 +32,8 @@ pub(crate) fn link<'a, R: CodeFiles, A: Allocator + Copy, O: Write, E: Write>(
 ) -> Result<Ended, RunError<'a>>
     ensures ok { (rows : List Row) → NamesLink (R.world rt.old).one_file asked.entry rows
         → IfOk result (λ ended. LinksOrRefuses R.world rows asked.entry.inputs.host.now
-        (ended_status ended) rt.old rt.new (O.contents out.old) (O.contents out.new)
-        (E.contents err.old) (E.contents err.new)) }
+        (ended_status ended) rt.old rt.new (out.new ≡ out.old) (O.contents out.old)
+        (O.contents out.new) (E.contents err.old) (E.contents err.new)) }
     ensures part { (rows : List Row) → NamesLink (R.world rt.old).one_file asked.entry rows
         → IfErr result (λ _. ((R.world rt.new).log ≡ (R.world rt.old).log)
         ⊎ LinkLeavesPart R.world rows asked.entry.inputs.host.now rt.old rt.new) }
@@ -69,8 +69,8 @@ fn link_read<'a, R: CodeFiles, A: Allocator + Copy, O: Write, E: Write>(
     err: &mut E,
 ) -> Result<Ended, RunError<'a>>
     ensures ok { IfOk result (λ ended. IsLinked R.world asked.now (paths_in files.now)
-        files.now.host.now (contents files.now.libs.now) ended rt.old rt.new (O.contents out.old)
-        (O.contents out.new) (E.contents err.old) (E.contents err.new)) }
+        files.now.host.now (contents files.now.libs.now) ended rt.old rt.new (out.new ≡ out.old)
+        (O.contents out.old) (O.contents out.new) (E.contents err.old) (E.contents err.new)) }
     ensures part { IfErr result (λ _. ((R.world rt.new).log ≡ (R.world rt.old).log)
         ⊎ LeavesPart asked.now files.now.host.now (contents files.now.libs.now)
         (R.world rt.old).log (R.world rt.new).log) }

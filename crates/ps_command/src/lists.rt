@@ -2,10 +2,9 @@
 ghost use Rattle.std.specs.Prelude.{◌≡◌, IfOk, OnErr, OnOk, if◌then◌else◌, map, true};
 ghost use Rattle.std.specs.Io.KnownBytes.{Appends};
 ghost use Rattle.ps_listing.specs.FileLists.{is_refused_in, listed};
-ghost use Rattle.ps_writing.specs.Prefixes.{AppendsPrefix};
 ghost use Rattle.ps_command.specs.Printed.{IsListed, PrintsDocument, PrintsFiles, PrintsLists, PrintsUnread};
 ghost use Rattle.ps_command.specs.Causes.{unread_error};
-ghost use Rattle.ps_command.specs.Failures.{CutsDocument, CutsFiles, CutsListed, CutsLists, CutsUnread};
+ghost use Rattle.ps_command.specs.Failures.{TakesMore};
 ghost use Rattle.ps_command.specs.Statuses.{ended_status};
 
 use crate::ended::Ended;
@@ -27,8 +26,7 @@ fn print_file<A: Allocator + Copy, O: Write>(
         ≡ (if is_refused_in file.now then 1 else 0)) }
     ensures text { OnOk result (Appends (O.contents out.old) (O.contents out.new)
         (listed first file.now)) }
-    ensures cut { OnErr result (AppendsPrefix (O.contents out.old) (O.contents out.new)
-        (listed first file.now)) }
+    ensures took { TakesMore (O.contents out.old) (O.contents out.new) }
 {
     write_text(
         &ListItem {
@@ -49,8 +47,7 @@ fn print_unread<O: Write>(
 ) -> Result<(), WriteFault>
     ensures text { OnOk result (PrintsUnread how first path.now (O.contents out.old)
         (O.contents out.new)) }
-    ensures cut { OnErr result (CutsUnread how first path.now (O.contents out.old)
-        (O.contents out.new)) }
+    ensures took { TakesMore (O.contents out.old) (O.contents out.new) }
 {
     match how {
         ListForm::Lines | ListForm::Units => Ok(()),
@@ -88,8 +85,7 @@ fn report_unread<O: Write, E: Write>(
     ensures ended { IfOk result (λ ended. ended ≡ Ended.Unread) }
     ensures text { OnOk result (PrintsUnread how first path.now (O.contents out.old)
         (O.contents out.new)) }
-    ensures cut { OnErr result (CutsUnread how first path.now (O.contents out.old)
-        (O.contents out.new)) }
+    ensures took { TakesMore (O.contents out.old) (O.contents out.new) }
 {
     unread(path, fault).report(err);
     print_unread(path, first, how, out)?;
@@ -110,8 +106,7 @@ fn print_list<R: CodeFiles, A: Allocator + Copy, O: Write, E: Write>(
     ensures ok { IfOk result (λ ended. IsListed (R.world rt.now) how first path.now
         (ended_status ended) (O.contents out.old) (O.contents out.new)) }
     ensures silent { IfOk result (λ ended. ended_status ended ≡ 0 → err.new ≡ err.old) }
-    ensures cut { OnErr result (CutsListed (R.world rt.now) how first path.now
-        (O.contents out.old) (O.contents out.new)) }
+    ensures took { TakesMore (O.contents out.old) (O.contents out.new) }
 {
     let file = match files::read(rt, alloc, path) {
         Ok(file) => file,
@@ -138,8 +133,7 @@ fn print_files<'a, R: CodeFiles, A: Allocator + Copy, O: Write, E: Write>(
         (map (λ path. path.now) paths.now) (ended_status ended) (O.contents out.old)
         (O.contents out.new)) }
     ensures silent { IfOk result (λ ended. ended_status ended ≡ 0 → err.new ≡ err.old) }
-    ensures cut { OnErr result (CutsFiles (R.world rt.now) how true
-        (map (λ path. path.now) paths.now) (O.contents out.old) (O.contents out.new)) }
+    ensures took { TakesMore (O.contents out.old) (O.contents out.new) }
 {
     let mut ended = Ended::Done;
     let mut first = true;
@@ -153,7 +147,7 @@ fn print_files<'a, R: CodeFiles, A: Allocator + Copy, O: Write, E: Write>(
 
 /// Prints one JSON document of the lists of the files in this form, and reports each that cannot be
 /// read. Returns the worst end of all.
-#[tactic(auto, using(crate::proofs::ListsPrinted::whole_document, crate::proofs::ListsPrinted::cut_items, crate::proofs::ListsPrinted::cut_rest))]
+#[tactic(auto, using(crate::proofs::ListsPrinted::whole_document))]
 fn print_document<'a, R: CodeFiles, A: Allocator + Copy, O: Write, E: Write>(
     rt: &R,
     alloc: A,
@@ -166,8 +160,7 @@ fn print_document<'a, R: CodeFiles, A: Allocator + Copy, O: Write, E: Write>(
         (map (λ path. path.now) paths.now) (ended_status ended) (O.contents out.old)
         (O.contents out.new)) }
     ensures silent { IfOk result (λ ended. ended_status ended ≡ 0 → err.new ≡ err.old) }
-    ensures cut { OnErr result (CutsDocument (R.world rt.now) how
-        (map (λ path. path.now) paths.now) (O.contents out.old) (O.contents out.new)) }
+    ensures took { TakesMore (O.contents out.old) (O.contents out.new) }
 {
     write_all_of(out, b"{\"files\":[")?;
     let ended = print_files(rt, alloc, paths, how, out, err)?;
@@ -189,8 +182,7 @@ pub(crate) fn print_lists<'a, R: CodeFiles, A: Allocator + Copy, O: Write, E: Wr
         (map (λ path. path.now) paths.now) (ended_status ended) (O.contents out.old)
         (O.contents out.new)) }
     ensures silent { IfOk result (λ ended. ended_status ended ≡ 0 → err.new ≡ err.old) }
-    ensures cut { OnErr result (CutsLists (R.world rt.now) how
-        (map (λ path. path.now) paths.now) (O.contents out.old) (O.contents out.new)) }
+    ensures took { TakesMore (O.contents out.old) (O.contents out.new) }
 {
     match how {
         ListForm::Json | ListForm::JsonUnits => print_document(rt, alloc, paths, how, out, err),

@@ -7,7 +7,7 @@ ghost use Rattle.ps_texts.specs.Texts.{bytes_in, status_in};
 ghost use Rattle.ps_arguments.specs.CommandLine.{AreAccepted, AskForText, Row, Text, faults_in, named_in, texts};
 ghost use Rattle.ps_arguments.specs.Requests.{IsNamedCommand, IsWrongUsage, NamesNoLink};
 ghost use Rattle.ps_command.specs.Causes.{told_of};
-ghost use Rattle.ps_command.specs.Failures.{CutsLists, CutsText, Fails, FailsNamed, FailsToPrint};
+ghost use Rattle.ps_command.specs.Failures.{CutsText, Fails, FailsNamed, FailsToPrint, TakesMore};
 ghost use Rattle.ps_command.specs.Printed.{IsPrinted, NamedLeavesPart, Prints, PrintsLists, PrintsOrRefuses, PrintsText, PrintsTextOf, TellsOnError, list_form as list_form_spec, map_kind as map_kind_spec, units_form as units_form_spec};
 ghost use Rattle.ps_command.specs.Statuses.{ended_status, status_of};
 ghost use Rattle.ps_output_files.specs.World.{unknown_world};
@@ -44,13 +44,14 @@ use std::rt::Files;
 /// The status is 0 where the command was done, or where the help or the version was requested; 1
 /// where the files are refused; 2 where the program does not accept the arguments; 3 where a file
 /// could not be read or written or is too long, or standard output failed; 4 where memory was
-/// refused. From 1 on, one text that ends with a line end is written to `err`, and whether that
-/// succeeds changes no status. But a report names the refusal itself: then the status is 1, as it
-/// is on a warning where `check` is strict, and `err` is as it was. And `list` writes a line to `err`
-/// for each file that cannot be read, goes on with the next, and returns the greatest status of all:
-/// 1 where a file or a segment is refused, as its line says, and 3 where a file cannot be read, also
-/// for want of memory. `check --unit` does the same with a line of each unit, and its status is 1 too
-/// where a unit is refused or a file has none.
+/// refused. Where a link, a map or a show is refused, the line of the fault is written to `err`, and
+/// nothing else. With status 2, 3 and 4 a text that says why is written there: no clause has its words.
+/// Whether `err` takes a text changes no status. A report names the refusal itself: then the status is
+/// 1, as it is on a warning where `check` is strict, and nothing is written to `err`. And `list` writes a
+/// line to `err` for each file that cannot be read, goes on with the next, and returns the greatest
+/// status of all: 1 where a file or a segment is refused, as its line says, and 3 where a file cannot be
+/// read, also for want of memory. `check --unit` does the same with a line of each unit, and its status
+/// is 1 too where a unit is refused or a file has none.
 ///
 /// Memory for the arguments is taken from `rt`, all other from `alloc`. Source: this project's
 /// profile.
@@ -62,20 +63,22 @@ pub fn run<R: Files + AllocGlobal, A: Allocator + Copy, O: Write, E: Write>(
     err: &mut E,
 ) -> u8
     ensures known { result ≤ 4 }
+    ensures silent { result ≡ 0 → (err.new ≡ err.old)
+        ⊎ TellsOnError unknown_world (named_in (texts args.now)) }
     ensures printed { faults_in (texts args.now) ≡ [] → result ≡ 0
-        → Prints (λ _. unknown_world) (named_in (texts args.now)) 0 rt.now rt.now (O.contents out.old)
-        (O.contents out.new) (E.contents err.old) (E.contents err.new) }
+        → Prints (λ _. unknown_world) (named_in (texts args.now)) 0 rt.now rt.now (out.new ≡ out.old)
+        (O.contents out.old) (O.contents out.new) (E.contents err.old) (E.contents err.new) }
     ensures accepted { AreAccepted (texts args.now) → result ≡ 0 → faults_in (texts args.now) ≡ [] }
     ensures helped { result ≡ 0 → faults_in (texts args.now) ≢ []
         → PrintsText (faults_in (texts args.now)) (O.contents out.old) (O.contents out.new) }
     ensures asked { AskForText (texts args.now) → result ≢ 3 → result ≢ 4 → result ≡ 0 }
     ensures reported { result ≡ 1
-        → Prints (λ _. unknown_world) (named_in (texts args.now)) 1 rt.now rt.now (O.contents out.old)
-        (O.contents out.new) (E.contents err.old) (E.contents err.new) }
+        → Prints (λ _. unknown_world) (named_in (texts args.now)) 1 rt.now rt.now (out.new ≡ out.old)
+        (O.contents out.old) (O.contents out.new) (E.contents err.old) (E.contents err.new) }
     ensures misused { result ≡ 2 → IsWrongUsage unknown_world.one_file (texts args.now) }
     ensures failed { result ≡ 3
-        → Prints (λ _. unknown_world) (named_in (texts args.now)) 3 rt.now rt.now (O.contents out.old)
-        (O.contents out.new) (E.contents err.old) (E.contents err.new)
+        → Prints (λ _. unknown_world) (named_in (texts args.now)) 3 rt.now rt.now (out.new ≡ out.old)
+        (O.contents out.old) (O.contents out.new) (E.contents err.old) (E.contents err.new)
         ⊎ Fails (λ _. unknown_world) (texts args.now) rt.now rt.now (O.contents out.old)
         (O.contents out.new) }
     ensures unprinted { result ≢ 0 → result ≢ 1 → result ≢ 3 → out.new ≡ out.old }
@@ -102,8 +105,8 @@ pub fn run_with_files<F: CodeFiles, A: Allocator + Copy, O: Write, E: Write>(
 
     // What was done printed what its command prints, and nothing else; a link wrote exactly its files.
     ensures printed { faults_in (texts args.now) ≡ [] → result ≡ 0
-        → Prints F.world (named_in (texts args.now)) 0 files.old files.new (O.contents out.old)
-        (O.contents out.new) (E.contents err.old) (E.contents err.new) }
+        → Prints F.world (named_in (texts args.now)) 0 files.old files.new (out.new ≡ out.old)
+        (O.contents out.old) (O.contents out.new) (E.contents err.old) (E.contents err.new) }
 
     // Arguments that clap accepts have no fault where a command was done.
     ensures accepted { AreAccepted (texts args.now) → result ≡ 0 → faults_in (texts args.now) ≡ [] }
@@ -115,20 +118,21 @@ pub fn run_with_files<F: CodeFiles, A: Allocator + Copy, O: Write, E: Write>(
     ensures asked { AskForText (texts args.now) → result ≢ 3 → result ≢ 4 → result ≡ 0 }
 
     // The status is 1 only where files that were read are refused, or a strict check warns of them: the
-    // report, the lists or the document of that is printed, and else nothing.
+    // report, the lists or the document of that is printed, and else nothing. Of a link, a map and a show
+    // that is refused, standard error has the line of the fault.
     ensures reported { result ≡ 1
-        → Prints F.world (named_in (texts args.now)) 1 files.old files.new (O.contents out.old)
-        (O.contents out.new) (E.contents err.old) (E.contents err.new) }
+        → Prints F.world (named_in (texts args.now)) 1 files.old files.new (out.new ≡ out.old)
+        (O.contents out.old) (O.contents out.new) (E.contents err.old) (E.contents err.new) }
 
     // Arguments are wrong usage only for one of the reasons that are stated.
     ensures misused { result ≡ 2 → IsWrongUsage (F.world files.old).one_file (texts args.now) }
 
     // With status 3 files could not be read, and the lists of all others are printed; or a file could not
     // be read or written, and nothing is printed; or standard output failed, and has a prefix of what the
-    // command prints.
+    // command prints, or of lists some bytes.
     ensures failed { result ≡ 3
-        → Prints F.world (named_in (texts args.now)) 3 files.old files.new (O.contents out.old)
-        (O.contents out.new) (E.contents err.old) (E.contents err.new)
+        → Prints F.world (named_in (texts args.now)) 3 files.old files.new (out.new ≡ out.old)
+        (O.contents out.old) (O.contents out.new) (E.contents err.old) (E.contents err.new)
         ⊎ Fails F.world (texts args.now) files.old files.new (O.contents out.old)
         (O.contents out.new) }
 
@@ -163,8 +167,8 @@ fn carry_out<'a, F: CodeFiles, A: Allocator + Copy, O: Write, E: Write>(
 ) -> Result<Ended, CommandError<'a>>
     ensures ok { faults_in (texts args.now) ≡ []
         → IfOk result (λ ended. Prints F.world (named_in (texts args.now)) (ended_status ended)
-        files.old files.new (O.contents out.old) (O.contents out.new) (E.contents err.old)
-        (E.contents err.new)) }
+        files.old files.new (out.new ≡ out.old) (O.contents out.old) (O.contents out.new)
+        (E.contents err.old) (E.contents err.new)) }
     ensures accepted { AreAccepted (texts args.now)
         → IfOk result (λ _. faults_in (texts args.now) ≡ []) }
     ensures text { faults_in (texts args.now) ≢ []
@@ -176,9 +180,9 @@ fn carry_out<'a, F: CodeFiles, A: Allocator + Copy, O: Write, E: Write>(
         ⊎ TellsOnError (F.world files.old) (named_in (texts args.now))) }
     ensures reported { IfOk result (λ ended. ended_status ended ≢ 0
         → Prints F.world (named_in (texts args.now)) (ended_status ended) files.old files.new
-        (O.contents out.old) (O.contents out.new) (E.contents err.old) (E.contents err.new)) }
+        (out.new ≡ out.old) (O.contents out.old) (O.contents out.new) (E.contents err.old)
+        (E.contents err.new)) }
     ensures err { IfErr result (λ e. status_of e ≢ 3 → out.new ≡ out.old) }
-    ensures unrefused { IfErr result (λ e. status_of e ≢ 1) }
     ensures misused { IfErr result (λ e. status_of e ≡ 2
         → IsWrongUsage (F.world files.old).one_file (texts args.now)) }
     ensures failed { IfErr result (λ e. status_of e ≡ 3 → Fails F.world (texts args.now) files.old
@@ -216,7 +220,8 @@ fn perform<'a, F: CodeFiles, A: Allocator + Copy, O: Write, E: Write>(
     ensures ok { (named : Option (Text × List Row))
         → IsNamedCommand (F.world files.old).one_file task.entry named
         → IfOk result (λ ended. Prints F.world named (ended_status ended) files.old files.new
-        (O.contents out.old) (O.contents out.new) (E.contents err.old) (E.contents err.new)) }
+        (out.new ≡ out.old) (O.contents out.old) (O.contents out.new) (E.contents err.old)
+        (E.contents err.new)) }
     ensures silent { (named : Option (Text × List Row))
         → IsNamedCommand (F.world files.old).one_file task.entry named
         → IfOk result (λ ended. ended_status ended ≡ 0 → (err.new ≡ err.old)
@@ -312,7 +317,8 @@ fn print_read<'a, A: Allocator + Copy, O: Write, E: Write>(
     ensures ok { IfOk result (λ ended. IsPrinted kind strict json
         (inputs.now.host.now ∷ contents inputs.now.libraries.items) bytes.now.host.items
         (map (λ library. library.items) bytes.now.libraries.items) (ended_status ended)
-        (O.contents out.old) (O.contents out.new)) }
+        (out.new ≡ out.old) (O.contents out.old) (O.contents out.new) (E.contents err.old)
+        (E.contents err.new)) }
     ensures silent { IfOk result (λ ended. ended_status ended ≡ 0 → err.new ≡ err.old) }
     ensures err { IfErr result (λ e. e ≢ RunError.StandardOutput → out.new ≡ out.old) }
     ensures cut { IfErr result (λ e. status_of (told_of e) ≡ 3 → CutsText kind strict json
@@ -342,8 +348,8 @@ fn print_files<'a, A: Allocator + Copy, O: Write, E: Write>(
     err: &mut E,
 ) -> Result<Ended, RunError<'a>>
     ensures ok { IfOk result (λ ended. IsPrinted kind strict json (paths_in files.now)
-        files.now.host.now (contents files.now.libs.now) (ended_status ended)
-        (O.contents out.old) (O.contents out.new)) }
+        files.now.host.now (contents files.now.libs.now) (ended_status ended) (out.new ≡ out.old)
+        (O.contents out.old) (O.contents out.new) (E.contents err.old) (E.contents err.new)) }
     ensures silent { IfOk result (λ ended. ended_status ended ≡ 0 → err.new ≡ err.old) }
     ensures err { IfErr result (λ e. e ≢ RunError.StandardOutput → out.new ≡ out.old) }
     ensures cut { IfErr result (λ e. status_of (told_of e) ≡ 3 → CutsText kind strict json
@@ -385,8 +391,8 @@ fn print<'a, R: CodeFiles, A: Allocator + Copy, O: Write, E: Write>(
     err: &mut E,
 ) -> Result<Ended, RunError<'a>>
     ensures ok { IfOk result (λ ended. PrintsOrRefuses (R.world rt.now) kind json inputs.entry.host.now
-        (contents inputs.entry.libraries.items) (ended_status ended) (O.contents out.old)
-        (O.contents out.new)) }
+        (contents inputs.entry.libraries.items) (ended_status ended) (out.new ≡ out.old)
+        (O.contents out.old) (O.contents out.new) (E.contents err.old) (E.contents err.new)) }
     ensures silent { IfOk result (λ ended. ended_status ended ≡ 0 → err.new ≡ err.old) }
     ensures err { IfErr result (λ e. e ≢ RunError.StandardOutput → out.new ≡ out.old) }
     ensures failed { IfErr result (λ e. status_of (told_of e) ≡ 3
@@ -464,9 +470,8 @@ fn check_units<'a, R: CodeFiles, A: Allocator + Copy, O: Write, E: Write>(
         (ended_status ended) (O.contents out.old) (O.contents out.new)) }
     ensures silent { IfOk result (λ ended. ended_status ended ≡ 0 → err.new ≡ err.old) }
     ensures err { IfErr result (λ e. e ≢ RunError.StandardOutput → out.new ≡ out.old) }
-    ensures cut { IfErr result (λ e. status_of (told_of e) ≡ 3 → CutsLists (R.world rt.now) how
-        (inputs.entry.host.now ∷ map (λ path. path.now) inputs.entry.libraries.items)
-        (O.contents out.old) (O.contents out.new)) }
+    ensures cut { IfErr result (λ e. status_of (told_of e) ≡ 3
+        → TakesMore (O.contents out.old) (O.contents out.new)) }
 {
     let Inputs {
         host,

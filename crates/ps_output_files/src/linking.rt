@@ -64,7 +64,9 @@ pub fn link_files<'a, 'f, R: CodeFiles, A: Allocator + Copy, O: Write, E: Write>
     ensures silent { IfOk result (λ _. (err.new ≡ err.old)
         ⊎ IsPlaceOf (R.world rt.old) asked.now Place.Error) }
 
-    // Where it is not linked, standard output is as it was, unless it failed itself.
+    // Where it is not linked, standard error is as it was, and standard output too unless it failed
+    // itself.
+    ensures untold { IfErr result (λ _. err.new ≡ err.old) }
     ensures err { IfErr result (λ e. e ≢ Unlinked.StandardOutput → out.new ≡ out.old) }
     ensures why { IfErr result (IsWhyUnlinked host.now (contents libs.now)) }
     // Where standard output failed, it was to take the summary, and has a prefix of it.
@@ -101,6 +103,7 @@ fn link_prepared<'a, R: CodeFiles, A: Allocator + Copy, O: Write, E: Write>(
         (E.contents err.old) (E.contents err.new)) }
     ensures silent { IfOk result (λ _. (err.new ≡ err.old)
         ⊎ IsPlaceOf (R.world rt.old) asked.now Place.Error) }
+    ensures untold { IfErr result (λ _. err.new ≡ err.old) }
     ensures err { IfErr result (λ e. e ≢ Unlinked.StandardOutput → out.new ≡ out.old) }
     ensures placed { IfErr result (λ e. e ≡ Unlinked.StandardOutput
         → IsPlaceOf (R.world rt.old) asked.now Place.Output) }
@@ -185,6 +188,7 @@ fn print_at<O: Write, E: Write>(
     ensures printed { OnOk result (PrintsAt place text.now (O.contents out.old)
         (O.contents out.new) (E.contents err.old) (E.contents err.new)) }
     ensures silent { place ≢ Place.Error → err.new ≡ err.old }
+    ensures untold { OnErr result (err.new ≡ err.old) }
     ensures placed { OnErr result (place ≡ Place.Output) }
     ensures prefix { OnErr result (AppendsPrefix (O.contents out.old) (O.contents out.new)
         text.now) }

@@ -129,6 +129,26 @@ static TEXTS: [(&str, Text); 6] = [
     ("pslink --version", Text::Version),
 ];
 
+const LIST: &str = "pslink list prints-library prints-host";
+
+const LISTED: &str = "prints-library: little-endian, 1536 bytes, library
+prints-library: slot 02 UTIL     unit, 24 bytes
+prints-host: little-endian, 1536 bytes, host
+prints-host: slot 01 DEMO     host, 18 bytes
+prints-host: slot 07 UTIL     wanted
+";
+
+/// Has each write of a list fail, which writes what it has of each file by itself.
+fn fails_each_list<R: Files + AllocGlobal + Abort>(rt: &R) {
+    let first = LISTED.find("prints-host").unwrap_or(0);
+    let second = LISTED.len().saturating_sub(first);
+    for most in [1, 7, 4096] {
+        let failed = failing_prints(rt, LIST, most, LISTED);
+        let writes = first.div_ceil(most).saturating_add(second.div_ceil(most));
+        says(rt, failed == writes as u64, &(LIST, most));
+    }
+}
+
 /// Has each write of each text fail.
 fn fails_each_print<R: Files + AllocGlobal + Abort>(rt: &R) {
     save_all(rt, PRINTED);
@@ -140,6 +160,7 @@ fn fails_each_print<R: Files + AllocGlobal + Abort>(rt: &R) {
             says(rt, failed == writes, &(*args, most));
         }
     }
+    fails_each_list(rt);
     clean_all(rt, PRINTED);
     clean(rt, "prints-out");
 }

@@ -18,7 +18,7 @@ returns g c =
     let done = c.link_read.ensures in
     record {
       ok = λ rows names. IfOk-weaker c.link_read.result _ _ (λ ended linked. links_or_refuses world
-          c.args.rt.now c.args.asked rows names now.rt host libs ended _ _ _ _ read.host
+          c.args.rt.now c.args.asked rows names now.rt host libs ended _ _ _ _ _ read.host
           read.libraries (rw (paths, seen, whole, viewed) at linked)) done.ok;
       part = λ rows names. IfErr-weaker c.link_read.result _ _ (λ e left. elim left [
         | inl same ↦ inl same

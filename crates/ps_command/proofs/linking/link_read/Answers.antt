@@ -15,6 +15,8 @@ returns-in_ok-refuse-in-Err-Refused-clause-ok g c =
       refused.fault,
       rw refused.field-0-is at refused.ensures.why,
       rw (same, c.of-refusal.ensures, c.is_document-is_json.ensures) at c.in_ok-refuse-in-Err-Refused.ensures.text,
+      rw (refused.ensures.untold, c.of-refusal.ensures)
+          at c.in_ok-refuse-in-Err-Refused.ensures.told,
       rw refused.field-0-is at refused.ensures.left,
     )
 

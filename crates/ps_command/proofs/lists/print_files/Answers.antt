@@ -1,10 +1,9 @@
-use Rattle.std.proofs.Common.{◌≡◌, ◌∙◌, Bor, map, ap, inl, refl, arith}
+use Rattle.std.proofs.Common.{◌≡◌, ◌∙◌, Bor, map, ap, refl, arith}
 use Rattle.std.specs.Prelude.{max}
 use Rattle.std.proofs.lemmas.List.{drop_all, drop_more}
-use Rattle.std.proofs.lemmas.Result.{err_from_is_err_and}
 use Rattle.ps_arguments.specs.CommandLine.{Text}
 use Rattle.ps_command.specs.Statuses.{ended_status}
-use Rattle.ps_command.proofs.ListsPrinted.{listed_more}
+use Rattle.ps_command.proofs.ListsPrinted.{listed_more, took_twice}
 use Rattle.ps_command.proofs.lists.print_files.Goals as goal
 
 pub loop-path-preserved : goal.loop-path-preserved
@@ -22,6 +21,7 @@ loop-path-preserved g c =
           let first : mine ≡ 0 = omega (arith, c.worse-ended.ensures, zero) in
           let other : next ≡ 0 = omega (arith, c.worse-ended.ensures, zero) in
           c.in_ok-next.ensures.silent other ∙ inv.silent first;
+      took = took_twice _ _ _ inv.took c.in_ok-next.ensures.took;
     }
 
 pub returns-clause-ok : goal.returns-clause-ok
@@ -32,11 +32,6 @@ returns-clause-ok g c =
     let zero : max (ended_status c.loop-path.ended) 0 ≡ ended_status c.loop-path.ended = omega arith in
     rw zero at (lists.rest 0 (g.O.Write.contents c.loop-path.out) (refl, refl))
 
-pub returns-in_err-next-clause-cut : goal.returns-in_err-next-clause-cut
-returns-in_err-next-clause-cut g c =
-    let told = err_from_is_err_and c.from_residual.result
-    c.from_residual.ensures.1 in
-    let left = ap (map (λ (path : Bor Text). path.now))
-    (drop_more c.args.paths.now c.loop-path.path-index _ c.loop-path-test.true) in
-    let lists = rw left at c.loop-path.invariant.lists in
-    rw told.1 (lists.cut _ (inl c.in_err-next.ensures.cut))
+pub returns-in_err-next-clause-took : goal.returns-in_err-next-clause-took
+returns-in_err-next-clause-took g c =
+    took_twice _ _ _ c.loop-path.invariant.took c.in_err-next.ensures.took

@@ -6,9 +6,3 @@ returns-in-Json-clause-ok g c = elim c.in-Json.is [
   | inl list ↦ rw list (rw list at c.print_document.ensures.ok)
   | inr units ↦ rw units (rw units at c.print_document.ensures.ok)
 ]
-
-pub returns-in-Json-clause-cut : goal.returns-in-Json-clause-cut
-returns-in-Json-clause-cut g c = elim c.in-Json.is [
-  | inl list ↦ rw list (rw list at c.print_document.ensures.cut)
-  | inr units ↦ rw units (rw units at c.print_document.ensures.cut)
-]

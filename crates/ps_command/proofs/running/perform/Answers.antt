@@ -134,8 +134,7 @@ returns-then-unit-clause-failed g c named is =
       inr (inr (inr (inl (
         task.1,
         task.2.0,
-        rw (sym task.4 ∙ c.if-unit.true)
-            (rw (c.units_form.ensures, task.2.1, task.5) at (cut three)),
+        rw (sym task.4 ∙ c.if-unit.true) (cut three),
       )))),
     ))
     c.check_units.ensures.cut
@@ -161,11 +160,5 @@ returns-in_err-print_lists-in-List-clause-failed g c named is =
     let task = rw c.in-List.is at is in
     let told = err_from_is_err_and c.from_residual.result
     c.from_residual.ensures.1 in
-    let paths = ap (map (λ path. path.now)) c.as_slice.ensures.value ∙ task.2 in
-    let cut = c.in_err-print_lists-in-List.ensures.cut in
-    rw told.1 (λ three. (
-      task.0,
-      [],
-      inr (inr (inr (inr
-          (task.1, rw (c.list_form.ensures, task.3, paths) at cut)))),
-    ))
+    let took = c.in_err-print_lists-in-List.ensures.took in
+    rw told.1 (λ three. (task.0, [], inr (inr (inr (inr (task.1, took))))))

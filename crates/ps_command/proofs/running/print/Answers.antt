@@ -19,6 +19,7 @@ returns-clause-ok g c =
         read.libraries,
         refused.2,
         refused.3,
+        refused.4,
       )
     ])
     c.print_read.ensures.ok

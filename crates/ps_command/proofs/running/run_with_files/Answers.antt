@@ -22,7 +22,7 @@ returns-in-Ok-clause-unprinted g c nonzero other third = elim c.status.ensures.k
 ]
 
 pub returns-in-Err-clause-misused : goal.returns-in-Err-clause-misused
-returns-in-Err-clause-misused g c two = c.in-Err.ensures.misused (sym c.report.ensures ∙ two)
+returns-in-Err-clause-misused g c two = c.in-Err.ensures.misused (sym c.report.ensures.status ∙ two)
 
 pub returns-in-Ok-clause-failed : goal.returns-in-Ok-clause-failed
 returns-in-Ok-clause-failed g c three =
@@ -31,4 +31,4 @@ returns-in-Ok-clause-failed g c three =
 
 pub returns-in-Err-clause-failed : goal.returns-in-Err-clause-failed
 returns-in-Err-clause-failed g c three =
-    inr (c.in-Err.ensures.failed (sym c.report.ensures ∙ three))
+    inr (c.in-Err.ensures.failed (sym c.report.ensures.status ∙ three))
