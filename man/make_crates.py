@@ -1,13 +1,14 @@
 #!/usr/bin/env python3
-"""Writes docs/CRATES.md from the sources: what each crate is and on which it stands, its files of definitions with what each says
-first, and its public functions, each with what its docstring says first and the names of the clauses of its contract.
+"""Writes docs/CRATES.md from the sources: the groups of crates.txt with their crates, what each crate is and on which it stands, its
+files of definitions with what each says first, and its public functions, each with what its docstring says first and the names of
+the clauses of its contract.
 Usage: make_crates.py [FOLDER], which is docs/ if none is given."""
 import pathlib
 import re
 import sys
 
 ROOT = pathlib.Path(__file__).resolve().parent.parent
-PAGE = "CRATES.md"
+CRATES, PAGE = ROOT / "crates.txt", "CRATES.md"
 HEAD = """# The crates: what each defines and promises
 
 Made by `man/make_crates.py` from `crates.txt` and the sources: change these, then run it. [ARCHITECTURE.md](ARCHITECTURE.md) says how
@@ -18,21 +19,27 @@ data goes through the crates, and [PROVED.md](PROVED.md) what all of it proves o
   docstring stand in its source. A law is a function with an empty body: its clauses are theorems.
 - **One clause**: functions with one clause and no name for it, which mostly says what the result is equal to.
 - **No clause**: functions of which nothing is proved but that they are safe and end. Tests show what they do.
-
 """
 
 
-def standing():
-    """Each crate, lowest first, with the crates of this repository that it stands on and those of the kit."""
-    rows = re.findall(r"^(\w+)(?: staticlib)?:(.*)", (ROOT / "crates.txt").read_text(), re.M)
-    ours = {crate for crate, _ in rows}
-    for crate, below in rows:
+def standing(text):
+    """Each crate of a text in the form of crates.txt, with the crates of this repository that it stands on and those of the kit."""
+    ours = {path.name for path in (ROOT / "crates").iterdir()}
+    for crate, below in re.findall(r"^(\w+)(?: staticlib)?:(.*)", text, re.M):
         yield crate, [name for name in below.split() if name in ours], [name for name in below.split() if name not in ours]
+
+
+def groups():
+    """Of each group of crates.txt its name, what its crates do, and the crates."""
+    head, *rest = re.split(r"^# (\w+): (.*)$", CRATES.read_text(), flags=re.M)
+    if list(standing(head)):
+        raise ValueError("crates.txt has a crate above its first group")
+    yield from zip(rest[::3], rest[1::3], map(list, map(standing, rest[2::3])))
 
 
 def needed(below):
     """Of the crates that a crate stands on, those on which no other of them stands."""
-    tree = {crate: ours for crate, ours, _ in standing()}
+    tree = {crate: ours for crate, ours, _ in standing(CRATES.read_text())}
 
     def all_below(crate):
         return set(tree[crate]).union(*map(all_below, tree[crate]))
@@ -113,29 +120,41 @@ def promises(crate):
     return rows, others, without
 
 
-def page():
-    yield HEAD
+def summary(crates):
+    """The table of the crates of a group."""
     yield "| Crate | Stands on | Of the kit | What it is |\n|---|---|---|---|\n"
-    for crate, below, of_kit in standing():
+    for crate, below, of_kit in crates:
         source = ROOT / "crates" / crate / "src"
         words = first_sentence(head_of(next(path for path in (source / "lib.rt", source / "main.rt") if path.exists()), "//!"), "//!")
         listed = [", ".join(f"`{name}`" for name in names) for names in (needed(below), of_kit)]
         yield f"| `{crate}` | {listed[0]} | {listed[1]} | {words} |\n"
-    for crate, _, _ in standing():
-        specs, (rows, others, without) = list(definitions(crate)), promises(crate)
-        if not specs and not rows and not others and not without:
-            continue
-        yield f"\n## {crate}\n"
-        if specs:
-            yield "\nDefinitions:\n\n"
-            yield from specs
-        if rows:
-            yield "\n| Function | What it does | Clauses |\n|---|---|---|\n"
-            yield from rows
-        if others:
-            yield f"\nOne clause: {', '.join(others)}.\n"
-        if without:
-            yield f"\nNo clause: {', '.join(without)}.\n"
+
+
+def section(crate):
+    """What a crate defines and promises, if it does."""
+    specs, (rows, others, without) = list(definitions(crate)), promises(crate)
+    if not specs and not rows and not others and not without:
+        return
+    yield f"\n### {crate}\n"
+    if specs:
+        yield "\nDefinitions:\n\n"
+        yield from specs
+    if rows:
+        yield "\n| Function | What it does | Clauses |\n|---|---|---|\n"
+        yield from rows
+    if others:
+        yield f"\nOne clause: {', '.join(others)}.\n"
+    if without:
+        yield f"\nNo clause: {', '.join(without)}.\n"
+
+
+def page():
+    yield HEAD
+    for name, words, crates in groups():
+        yield f"\n## {name.capitalize()}\n\n{words[0].upper()}{words[1:]}.\n\n"
+        yield from summary(crates)
+        for crate, _, _ in crates:
+            yield from section(crate)
 
 
 def main():
