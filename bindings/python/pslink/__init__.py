@@ -468,13 +468,15 @@ def show(file: File) -> str:
 
 # made by man/make_constants.py from crates/ps_c_texts/src/kinds.rt: the names of units
 def units_wanted(host: File, libs: Iterable[File] = ()) -> List[str]:
-    """The names of the units that a link takes from libraries, or would take if a library had them, each once, as 'UTIL'.
+    """The names of the units that a link takes from libraries, or would take if a library had them,
+    each once, as 'UTIL'.
 
-    First come those that the slots of the host want, by slot. Then come those that a record requests, of the host or of
-    a unit that was found, and no slot of the host has: in the order of their requests, ten of these at most. They are
-    told as far as a link reads: a segment that cannot be read requests none, and no unit is looked for after one that
-    is missing. There is none where the host is linked already, or where its list says that it is something else than a
-    code file. Raises what `show` raises.
+    First come those that the slots of the host want, by slot. Then come those that a record
+    requests, of the host or of a unit that was found, and no slot of the host has: in the order of
+    their requests, ten of these at most. They are told as far as a link reads: a segment that
+    cannot be read requests none, and no unit is looked for after one that is missing. There is none
+    where the host is linked already, or where its list says that it is something else than a code
+    file. Raises what `show` raises.
     """
     return _Files(host, libs).units(_NAMES["wanted"])
 
@@ -482,8 +484,8 @@ def units_wanted(host: File, libs: Iterable[File] = ()) -> List[str]:
 def units_had(file: File) -> List[str]:
     """The names of the units whose code the file has, by slot, as 'UTIL'.
 
-    There is none where the file is linked already, or where its list says that it is something else than a code file.
-    Raises what `show` raises.
+    There is none where the file is linked already, or where its list says that it is something else
+    than a code file. Raises what `show` raises.
     """
     return _Files(file).units(_NAMES["had"])
 
