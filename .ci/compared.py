@@ -176,5 +176,11 @@ CHOOSING = {
     "the program's private variables come last", "private variables of added units come last", "private variables come by file",
     "private variables come by slot from the highest", "private variables come by name",
     "the data size becomes that of all words", "the data size is little-endian",
+    *(f"no unit is added in a slot with {what}" for what in ("an address", "a kind", "a name", "a text")),
+    "private variables begin after the largest end mark",
+    "the text addresses of empty slots stay", "the address of an empty slot stays",
+    "codes are padded with what follows them",
+    *(f"codes of {what} are padded with what follows them"
+      for what in ("plain segments", "added units", "units of the host", "the program", "wanted units")),
     "the tail is 0", "the first byte of the tail is 0", "the last byte of the tail is 0", "the last half of the tail is 0",
 }
