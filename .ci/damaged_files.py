@@ -1,4 +1,5 @@
-"""What happens to code files on their way from one machine to another, and what is given in place of them, as several scripts try it."""
+"""What happens to code files on their way from one machine to another, and what is given in place
+of them, as several scripts try it."""
 import binascii
 import struct
 
@@ -30,11 +31,13 @@ def macbinary(file, name=b"DEMO.CODE", kind=b"BINApdos"):
 
 
 def in_dos_order(file):
-    """Whole tracks, with their sectors in the order of DOS 3.3: the first and the last of a track are where they were, and those
-    between are in the other order."""
+    """Whole tracks, with their sectors in the order of DOS 3.3: the first and the last of a track
+    are where they were, and those between are in the other order."""
     file += bytes(-len(file) % TRACK)
     order = [0, *range(14, 0, -1), 15]
-    return b"".join(file[track + SECTOR * sector : track + SECTOR * (sector + 1)] for track in range(0, len(file), TRACK) for sector in order)
+    return b"".join(file[track + SECTOR * sector : track + SECTOR * (sector + 1)]
+                    for track in range(0, len(file), TRACK)
+                    for sector in order)
 
 
 def volume(contents, boot=b"", end=6, blocks=0, files=0, entries=b""):
@@ -57,5 +60,7 @@ def uuencoded(file):
 
 def hex_dump(file):
     """As `xxd` writes it."""
-    pairs = lambda line: b" ".join(binascii.hexlify(line[k : k + 2]) for k in range(0, len(line), 2))
-    return b"".join(b"%08x: %-39s  ................\n" % (at, pairs(file[at : at + 16])) for at in range(0, len(file), 16))
+    pairs = lambda line: b" ".join(binascii.hexlify(line[k : k + 2])
+                                   for k in range(0, len(line), 2))
+    return b"".join(b"%08x: %-39s  ................\n" % (at, pairs(file[at : at + 16]))
+                    for at in range(0, len(file), 16))

@@ -1,4 +1,5 @@
-"""The lines that the documents of `pslink --json` make by docs/OUTPUT.md: those that the command prints without the flag."""
+"""The lines that the documents of `pslink --json` make by docs/OUTPUT.md: those that the command
+prints without the flag."""
 import linker
 
 PRINTED = range(32, 127)
@@ -11,17 +12,21 @@ def name_of(item):
 
 def map_lines(document):
     for item in document["segments"]:
-        yield (f"segment {item['slot']:02} {name_of(item)} file {item['file']} entry {item['entry']:02} block {item['block']}"
+        yield (f"segment {item['slot']:02} {name_of(item)} file {item['file']} entry "
+               f"{item['entry']:02} block {item['block']}"
                f" length {item['length']}{' added' if item['added'] else ''}")
     for item in document["definitions"]:
         yield f"{item['kind']} {name_of(item)} value {item['value']}"
     for item in document["privates"]:
-        yield f"private {item['slot']:02} {name_of(item)} offset {item['offset']} words {item['words']}"
+        yield (f"private {item['slot']:02} {name_of(item)} offset {item['offset']} words "
+               f"{item['words']}")
     yield f"next {document['next']} data {document['data']} blocks {document['blocks']}"
     for item in document.get("references", []):
-        line = f"{item['stores']} {item['slot']:02} {name_of(item)} at {item['at']} file {item['offset']} was {item['was']} is {item['is']}"
+        line = (f"{item['stores']} {item['slot']:02} {name_of(item)} at {item['at']} file "
+                f"{item['offset']} was {item['was']} is {item['is']}")
         record = item["record"]
-        yield line + (f" {record['kind']} {name_of(record)} record {record['index']}" if record else "")
+        yield line + (
+            f" {record['kind']} {name_of(record)} record {record['index']}" if record else "")
 
 
 def record_line(item):
@@ -38,7 +43,8 @@ def record_line(item):
 def show_lines(document):
     yield f"order {document['order']}"
     for item in document["slots"]:
-        yield f"slot {item['slot']:02} {name_of(item)}" + "".join(f" {word} {item[word]}" for word in ("kind", "address", "length", "text"))
+        yield f"slot {item['slot']:02} {name_of(item)}" + "".join(
+            f" {word} {item[word]}" for word in ("kind", "address", "length", "text"))
     for item in document["slots"]:
         if item["records"] is not None:
             yield f"links {item['slot']:02}"
@@ -48,7 +54,8 @@ def show_lines(document):
 
 
 def quoted(name):
-    """A name in a line for a person: without blanks at its end, and in quotes where ASCII does not print it."""
+    """A name in a line for a person: without blanks at its end, and in quotes where ASCII does not
+    print it."""
     name = name.rstrip(b" ")
     if name and all(byte in PRINTED for byte in name):
         return name.decode()
@@ -65,19 +72,24 @@ def check_lines(document):
     if fault:
         yield from refusal_lines(document)
     for item in document["findings"]:
-        segment = f", segment {quoted(bytes.fromhex(item['segment']['name_hex']))}" if item["segment"] else ""
+        segment = f", segment {quoted(bytes.fromhex(item['segment']['name_hex']))}" if item[
+            "segment"] else ""
         record = f", record {item['record']}" if item["record"] is not None else ""
         yield f"{item['weight']}: {item['path']}{segment}{record}: {item['text']}"
 
 
 def link_lines(document):
-    yield f"segments {document['segments']} private words {document['private_words']} blocks {document['blocks']}"
+    yield (f"segments {document['segments']} private words {document['private_words']} blocks "
+           f"{document['blocks']}")
 
 
 def refusal_lines(document):
     """The line on standard error of the fault of a refusal."""
     fault = document["fault"]
-    parts = "".join(f" {part} {fault[part]}" for part in ("kind", "file", "slot", "record", "reference") if fault[part] is not None)
+    parts = "".join(
+        f" {part} {fault[part]}"
+        for part in ("kind", "file", "slot", "record", "reference")
+        if fault[part] is not None)
     yield f"pslink: refused {fault['number']} {fault['reason']}{parts}"
 
 
@@ -85,12 +97,14 @@ def refusal(fault):
     """What a line ends with for a fault."""
     if not fault:
         return ""
-    return f", refused {fault['number']} {fault['reason']}" + (f" record {fault['record']}" if fault["record"] is not None else "")
+    return f", refused {fault['number']} {fault['reason']}" + (
+        f" record {fault['record']}" if fault["record"] is not None else "")
 
 
 def listed_path(path):
     """A path as each of its lines begins with it."""
-    return "".join("?" if ord(character) < 32 or ord(character) == 127 else character for character in path)
+    return "".join(
+        "?" if ord(character) < 32 or ord(character) == 127 else character for character in path)
 
 
 def list_lines(document):
@@ -101,12 +115,17 @@ def list_lines(document):
         if file["order"] is None:
             yield f"{path}: {file['length']} bytes{type_words}{refusal(file['fault'])}"
         else:
-            yield f"{path}: {file['order']}-endian, {file['length']} bytes, {file['contents'] or 'no segment'}{type_words}"
+            yield (f"{path}: {file['order']}-endian, {file['length']} bytes, "
+                   f"{file['contents'] or 'no segment'}{type_words}")
         for item in file["segments"]:
-            line = f"{path}: slot {item['slot']:02} {name_of(item)} {item['role'] or 'kind ' + str(item['kind'])}"
+            line = (f"{path}: slot {item['slot']:02} {name_of(item)} "
+                    f"{item['role'] or 'kind ' + str(item['kind'])}")
             line += f", {item['length']} bytes" if item["length"] is not None else ""
-            yield line + "".join(f", uses {name_of(used).rstrip(' ')}" for used in item["uses"]) + refusal(item["fault"])
+            yield (line + "".join(f", uses {name_of(used).rstrip(' ')}" for used in item["uses"])
+                   + refusal(item["fault"]))
         for item in file.get("units", []):
             reference = item["fault"] and item["fault"]["reference"]
-            words = refusal(item["fault"]) + (f" reference {reference}" if reference is not None else "")
-            yield f"{path}: slot {item['slot']:02} {name_of(item)} by itself{words if item['fault'] else ', no fault'}"
+            words = refusal(item["fault"]) + (
+                f" reference {reference}" if reference is not None else "")
+            yield (f"{path}: slot {item['slot']:02} {name_of(item)} by "
+                   f"itself{words if item['fault'] else ', no fault'}")

@@ -1,7 +1,7 @@
 """The faults: their numbers and names, typed apart from the code in linker.py, and what check says
 of each, what is wrong and what to do. The sentences are typed here too, by what docs/LINKING.md
-says of when each fault occurs, and not taken from the code: `manual` compares them with those of the
-code, and `report` with what check prints. `the file` in what to do is printed as its path."""
+says of when each fault occurs, and not taken from the code: `manual` compares them with those of
+the code, and `report` with what check prints. `the file` in what to do is printed as its path."""
 import linker
 
 NAMES = dict(enumerate(linker.NAMES, 1))
@@ -93,6 +93,6 @@ SENTENCES = {
          " the file again."),
     35: (f"The host has no empty slot from 7 to 15 left for the unit that {IN_RECORD}",
          "Join two units into one, or take linked segments out of the host."),
-}  # fmt: skip
+}
 MEANINGS = {name: SENTENCES[number][0] for number, name in NAMES.items()}
 REMEDIES = {name: SENTENCES[number][1] for number, name in NAMES.items()}

@@ -1,8 +1,8 @@
-"""Links of generated files: for the scripts beside, which add the folders of the repository to the path."""
-from descriptions.model import (
-    HOSTSEG, LINKED, PRIVREF, PUBLREF, UNITREF, UNITSEG, File, Operand, Procedure, Segment, eof_mark, places, priv_ref,
-    publ_def, publ_ref, unit_ref, written,
-)
+"""Links of generated files: for the scripts beside, which add the folders of the repository to the
+path."""
+from descriptions.model import (HOSTSEG, LINKED, PRIVREF, PUBLREF, UNITREF, UNITSEG, File, Operand,
+                                Procedure, Segment, eof_mark, places, priv_ref, publ_def, publ_ref,
+                                unit_ref, written)
 
 PUBLICS = {"COUNT": 3, "LIMIT": 200, "TOTAL": 1024}
 PRIVATES = {"STATE": 4, "CACHE": 1, "TABLE": 300}
@@ -14,11 +14,17 @@ def described(*files):
 
 
 def segment_of(numbers, name, kind, units, first=(), next_free=0):
-    """A segment with a few operands of publics, privates and units, and a record for each name of them; `first` are its other records."""
-    chosen = numbers.choices([(PUBLREF, each) for each in PUBLICS] + [(PRIVREF, each) for each in PRIVATES] + [(UNITREF, each) for each in units], k=numbers.randrange(9))
+    """A segment with a few operands of publics, privates and units, and a record for each name of
+    them; `first` are its other records."""
+    chosen = numbers.choices(
+        [(PUBLREF, each) for each in PUBLICS] + [(PRIVREF, each) for each in PRIVATES]
+        + [(UNITREF, each) for each in units],
+        k=numbers.randrange(9))
     parts = []
     for type, other in chosen:
-        parts += ["A5" if type != UNITREF else "CD", Operand(type, other, 0 if type == UNITREF else numbers.randrange(300)), "D7" * numbers.randrange(1, 80)]
+        parts += ["A5" if type != UNITREF else "CD",
+                  Operand(type, other, 0 if type == UNITREF else numbers.randrange(300)),
+                  "D7" * numbers.randrange(1, 80)]
     end = "C1 00" if kind == HOSTSEG else "AD 00"
     procedures = [Procedure([*parts, end], data=2 * numbers.randrange(20))]
     procedures += [Procedure(["D7", end], number=2)] * numbers.randrange(2)
@@ -26,14 +32,19 @@ def segment_of(numbers, name, kind, units, first=(), next_free=0):
     for type, other in dict.fromkeys(chosen):
         at = places(drafted, type, other)
         numbers.shuffle(at)
-        records.append({PUBLREF: publ_ref, UNITREF: unit_ref}[type](other, at) if type != PRIVREF else priv_ref(other, PRIVATES[other], at))
+        records.append(
+            {PUBLREF: publ_ref, UNITREF: unit_ref}[type](other, at)
+            if type != PRIVREF
+            else priv_ref(other, PRIVATES[other], at))
     numbers.shuffle(records)
-    return Segment(name, kind, procedures, [*records, eof_mark(next_free)], number=numbers.randrange(1, 16))
+    return Segment(
+        name, kind, procedures, [*records, eof_mark(next_free)], number=numbers.randrange(1, 16))
 
 
 def generated(numbers):
-    """The bytes of a host and of its libraries. Units are wanted, in place, or named by a unit alone; a library may have a unit again, or
-    one that nothing names. An empty slot of the host has a name."""
+    """The bytes of a host and of its libraries. Units are wanted, in place, or named by a unit
+    alone; a library may have a unit again, or one that nothing names. An empty slot of the host has
+    a name."""
     order = numbers.choice(["little", "big"])
     units = [f"UNIT{index}" for index in range(numbers.randrange(1, 6))]
     in_place = set(units[: numbers.randrange(2)])
@@ -49,9 +60,12 @@ def generated(numbers):
     slots[free[-1]] = Segment("TOOLS", LINKED, code=numbers.randbytes(numbers.randrange(1, 1200)))
     libraries = [{} for _ in range(numbers.randrange(1, 4))]
     for name in [*units, "SPARE", numbers.choice(units)]:
-        open_ones = [library for library in libraries if name not in [each.name for each in library.values()]]
+        open_ones = [library for library in libraries if name not in [
+                         each.name for each in library.values()]]
         if open_ones:
             library = numbers.choice(open_ones)
-            library[numbers.choice([slot for slot in range(16) if slot not in library])] = segment_of(numbers, name, UNITSEG, units)
+            library[numbers.choice([slot for slot in range(16) if slot not in library])] = (
+                segment_of(numbers, name, UNITSEG, units))
     tail = {place: numbers.randrange(256) for place in numbers.sample(range(256, 512), 9)}
-    return described(File(slots, order, tail=tail), *(File(library, order) for library in libraries))
+    return described(
+        File(slots, order, tail=tail), *(File(library, order) for library in libraries))

@@ -1,5 +1,6 @@
-"""The code of good files: procedures whose statements are made at random, in the style that is given. The instructions are written from
-their names, by the tables of a later and of an earlier release, apart from the table of crates/ps_pcode."""
+"""The code of good files: procedures whose statements are made at random, in the style that is
+given. The instructions are written from their names, by the tables of a later and of an earlier
+release, apart from the table of crates/ps_pcode."""
 import dataclasses
 import pathlib
 import sys
@@ -9,11 +10,13 @@ sys.path.append(str(pathlib.Path(__file__).resolve().parents[1] / "vectors"))
 from descriptions.model import PRIVREF, PUBLREF, UNITREF
 
 # What opcodes are called in both releases, and in one of them.
-OPCODES = """80 ABI 81 ABR 82 ADI 83 ADR 84 LAND 85 DIF 86 DVI 87 DVR 88 CHK 89 FLO 8A FLT 8B INN 8C INT 8D LOR 8E MODI 8F MPI 90 MPR
-91 NGI 92 NGR 93 LNOT 94 SRS 95 SBI 96 SBR 97 SGS 98 SQI 99 SQR 9A STO 9B IXS 9C UNI 9E CSP 9F LDCN A0 ADJ A1 FJP A2 INC A3 IND
-A4 IXA A5 LAO A6 LCA A8 MOV AA SAS AB SRO AC XJP AD RNP AE CIP AF EQU B0 GEQ B1 GRT B2 LDA B3 LDC B4 LEQ B5 LES B6 LOD B7 NEQ B8 STR
-B9 UJP BA LDP BB STP BC LDM BD STM BE LDB BF STB C0 IXP C1 RBP C2 CBP C3 EQUI C4 GEQI C5 GRTI C6 LLA C7 LDCI C8 LEQI C9 LESI CA LDL
-CB NEQI CC STL CD CXP CE CLP CF CGP D3 EFJ D4 NFJ D5 BPT D6 XIT D7 NOP"""
+OPCODES = """80 ABI 81 ABR 82 ADI 83 ADR 84 LAND 85 DIF 86 DVI 87 DVR 88 CHK 89 FLO 8A FLT 8B INN 8C
+INT 8D LOR 8E MODI 8F MPI 90 MPR 91 NGI 92 NGR 93 LNOT 94 SRS 95 SBI 96 SBR 97 SGS 98 SQI 99 SQR 9A
+STO 9B IXS 9C UNI 9E CSP 9F LDCN A0 ADJ A1 FJP A2 INC A3 IND A4 IXA A5 LAO A6 LCA A8 MOV AA SAS AB
+SRO AC XJP AD RNP AE CIP AF EQU B0 GEQ B1 GRT B2 LDA B3 LDC B4 LEQ B5 LES B6 LOD B7 NEQ B8 STR B9
+UJP BA LDP BB STP BC LDM BD STM BE LDB BF STB C0 IXP C1 RBP C2 CBP C3 EQUI C4 GEQI C5 GRTI C6 LLA C7
+LDCI C8 LEQI C9 LESI CA LDL CB NEQI CC STL CD CXP CE CLP CF CGP D3 EFJ D4 NFJ D5 BPT D6 XIT D7
+NOP"""
 LATER = "9D LDE A7 LAE A9 LDO D0 LPA D1 STE"
 EARLIER = "9D S2P A7 LDO A9 MVB D0 S1P D1 IXB D2 BYT"
 SLDL, SLDO, SIND = 0xD8, 0xE8, 0xF8
@@ -26,7 +29,8 @@ def opcodes(text):
     return {name: int(code, 16) for code, name in zip(words[::2], words[1::2])}
 
 
-RELEASES = {"later": {**opcodes(OPCODES), **opcodes(LATER)}, "earlier": {**opcodes(OPCODES), **opcodes(EARLIER)}}
+RELEASES = {"later": {**opcodes(OPCODES), **opcodes(LATER)},
+            "earlier": {**opcodes(OPCODES), **opcodes(EARLIER)}}
 
 
 @dataclasses.dataclass
@@ -36,7 +40,8 @@ class Style:
     name: str
     release: str = "later"
     order: str = "little"
-    exits: bool = False  # EXIT of a procedure of a unit: its segment is a constant that a link fills in
+    # EXIT of a procedure of a unit: its segment is a constant that a link fills in
+    exits: bool = False
     strings: bytes = b"ABCDEFGHIJKLMNOPQRSTUVWXYZ abcdefghijklmnopqrstuvwxyz0123456789.,:;-+*/()"
     long: bool = False  # operands take two bytes everywhere
     short: bool = True  # variables and constants have instructions of one byte
@@ -59,11 +64,14 @@ class Style:
     tables: bool = False  # each jump goes by the jump table
     padding: int = 0  # the byte that makes a length even
     numbers: bool = True  # each code has a segment number; without it is 0
-    half: bool = False  # empty slots have names of zeros and kinds that say nothing, and wanted ones an address or a length
+    # empty slots have names of zeros and kinds that say nothing, and wanted ones an address or a
+    # length
+    half: bool = False
     # what a UCSD compiler does not write: a note may be said of it, and no warning
     noted: bool = False
     clear_bits: bool = False  # bit 7 of an operand that a link fills in is 0
-    free_words: bool = False  # the words of tables that a link does not read, and lex levels, are any
+    # the words of tables that a link does not read, and lex levels, are any
+    free_words: bool = False
     free_bytes: bool = False  # bytes of any value are in place of instructions
     other_numbers: bool = False  # tables have numbers of other procedures
     odd_tables: bool = False  # tables at odd places
@@ -72,14 +80,17 @@ class Style:
     between: bool = False  # bytes between procedures
     operand_numbers: bool = False  # the operand of a UNITREF has a number before the link
     host_numbers: bool = False  # the host calls units by their numbers
-    free_records: bool = False  # words of records that a link ignores, and the rest of lists, are any
+    # words of records that a link ignores, and the rest of lists, are any
+    free_records: bool = False
     several: bool = False  # each reference has a record of its own
     empty_records: bool = False  # records without references
     no_words: bool = False  # private variables of no words
     unit_definitions: bool = False  # definitions in units
-    empty_public: bool = False  # the last public variable has no words, and is where the end mark is
+    # the last public variable has no words, and is where the end mark is
+    empty_public: bool = False
     near: typing.Callable = None  # the names of the first two units, made from one
-    other_program: bool = False  # a library that is another program, with records that are not supported
+    # a library that is another program, with records that are not supported
+    other_program: bool = False
     shared: bool = False  # entries of other kinds share the bytes of a unit
     high_mark: bool = False  # the end mark of the host is above what is free
     no_mark: bool = False  # the zeros of the last block are the end mark of a unit
@@ -94,14 +105,16 @@ class Style:
     short_end: bool = False  # the last block is short
 
 
-# Procedures ----------------------------------------------------------------------------------------------------------
+# Procedures
+# ----------------------------------------------------------------------------------------------------------
 
 
 class Procedure:
     """The statements of a procedure, as parts: bytes, references, labels, jumps and cases."""
 
     def __init__(self, source, style, number, calls, names):
-        self.source, self.style, self.number, self.calls, self.names = source, style, number, calls, names
+        self.source, self.style, self.number, self.calls, self.names = (
+            source, style, number, calls, names)
         self.codes, self.parts, self.labels = RELEASES[style.release], [], 0
         self.locals, self.parameters = source.randrange(4, 24), source.randrange(0, 4)
         self.level = 1
@@ -140,10 +153,13 @@ class Procedure:
     def variable(self, name):
         """An instruction for a variable of the program: of a unit, a link fills in its operand."""
         if self.names["publics"] or self.names["privates"]:
-            kind = self.source.choice([kind for kind in ("publics", "privates") if self.names[kind]])
+            kind = self.source.choice([kind
+                                       for kind in ("publics", "privates")
+                                       if self.names[kind]])
             words = self.names[kind]
             which = self.source.choice(list(words))
-            self.parts.append(("variable", self.codes[name], kind, which, self.source.randrange(max(1, words[which]))))
+            self.parts.append(("variable", self.codes[name], kind, which,
+                               self.source.randrange(max(1, words[which]))))
         elif name == "LDO" and self.style.short and self.source.random() < 0.7:
             self.parts.append(("bytes", bytes([SLDO + self.source.randrange(16)])))
         else:
@@ -175,12 +191,14 @@ class Procedure:
             self.big("LLA", self.source.randrange(1, self.locals + 1))
 
     def text(self, longest=30):
-        return bytes(self.source.choice(self.style.strings) for _ in range(self.source.randrange(1, longest)))
+        return bytes(self.source.choice(self.style.strings)
+                     for _ in range(self.source.randrange(1, longest)))
 
     def word(self, depth=0):
         form = self.source.randrange(22 if depth < 3 else 6)
         if form < 2:
-            self.constant(self.source.choice([0, 1, 1, 2, 3, 10, 13, 32, 80, 127, 128, 255, 1000, -1, -5]))
+            self.constant(self.source.choice(
+                [0, 1, 1, 2, 3, 10, 13, 32, 80, 127, 128, 255, 1000, -1, -5]))
         elif form < 4:
             self.local()
         elif form < 6:
@@ -231,7 +249,8 @@ class Procedure:
             self.condition(depth + 1)
 
     def words(self, count):
-        self.parts.append(("constant", self.codes["LDC"], [self.source.randrange(1 << 16) for _ in range(count)]))
+        self.parts.append(("constant", self.codes["LDC"],
+                           [self.source.randrange(1 << 16) for _ in range(count)]))
 
     def real(self):
         self.words(2)
@@ -271,9 +290,11 @@ class Procedure:
     # Statements: each leaves the evaluation stack as it was
 
     def statement(self, depth=0):
-        choices = [self.assign] * 4 + [self.store] * 2 + [self.call] * 2 + [self.write, self.string, self.move, self.set_byte]
+        choices = ([self.assign] * 4 + [self.store] * 2 + [self.call] * 2
+                   + [self.write, self.string, self.move, self.set_byte])
         choices += [self.choice, self.loop, self.repeat, self.count] if depth < 3 else []
-        choices += [self.case, self.exit, self.row, self.leave, *[self.hold] * 4] if depth < 2 else []
+        choices += ([self.case, self.exit, self.row, self.leave, *[self.hold] * 4] if depth < 2
+                    else [])
         self.source.choice(choices)(depth)
 
     def statements(self, depth):
@@ -296,7 +317,8 @@ class Procedure:
 
     def call(self, _):
         if self.names["units"] and self.source.random() < 0.5:
-            self.number_of_segment(self.source.choice(self.names["units"]), [self.codes["CXP"]], self.source.randrange(1, 9))
+            self.number_of_segment(self.source.choice(self.names["units"]), [self.codes["CXP"]],
+                                   self.source.randrange(1, 9))
             return
         if self.style.host_numbers and self.names.get("numbers"):
             self.op("CXP", self.source.choice(self.names["numbers"]), self.source.randrange(1, 9))
@@ -403,7 +425,8 @@ class Procedure:
             self.statements(depth)
             self.jump("UJP", end)
         self.put(table)
-        targets = [self.source.choice([*labels, *labels]) for _ in range(self.source.randrange(len(labels), 12))]
+        targets = [self.source.choice([*labels, *labels])
+                   for _ in range(self.source.randrange(len(labels), 12))]
         self.parts.append(("case", self.codes["XJP"], low, self.codes["UJP"], end, targets))
         self.put(end)
 
@@ -453,7 +476,8 @@ class Procedure:
         return {"label": 0, "jump": 2, "variable": 3}[kind]
 
     def made(self, start, out):
-        """Its bytes from an even place on, with its table, and the table's place; what a link fills in is added to `out`."""
+        """Its bytes from an even place on, with its table, and the table's place; what a link fills
+        in is added to `out`."""
         places, place, labels = [], start, {}
         for part in self.parts:
             places.append(place)
@@ -482,35 +506,47 @@ class Procedure:
             if kind == "segment":
                 before, name, after = rest
                 out.append((UNITREF, name, place + len(before)))
-                code += before + (self.source.randbytes(1) if self.style.operand_numbers else b"\0") + after
+                code += (before
+                         + (self.source.randbytes(1) if self.style.operand_numbers else b"\0")
+                         + after)
             elif kind == "variable":
                 opcode, names, name, displacement = rest
                 out.append(({"publics": PUBLREF, "privates": PRIVREF}[names], name, place + 1))
-                code += bytes([opcode, 128 * (not self.style.clear_bits) + displacement // 256, displacement % 256])
+                code += bytes([opcode, 128 * (not self.style.clear_bits) + displacement // 256,
+                               displacement % 256])
             elif kind == "constant":
-                code += bytes([rest[0], len(rest[1])]) + bytes(place % 2) + b"".join(map(word, rest[1]))
+                code += (bytes([rest[0], len(rest[1])]) + bytes(place % 2)
+                         + b"".join(map(word, rest[1])))
             elif kind == "jump":
                 code += bytes([rest[0], operand(rest[1], place + 2)])
             elif kind == "case":
                 opcode, low, jump, other, targets = rest
                 at = place + 1 + (1 - place % 2)
-                code += bytes([opcode]) + bytes(at - place - 1) + word(low) + word(low + len(targets) - 1)
+                code += (bytes([opcode]) + bytes(at - place - 1) + word(low)
+                         + word(low + len(targets) - 1))
                 code += bytes([jump, operand(other, at + 6)])
-                code += b"".join(word(at + 6 + 2 * k - labels[target]) for k, target in enumerate(targets))
-        code = self.with_any_bytes(code, start, out[filled:]) if self.style.free_bytes else bytes(code)
+                code += b"".join(word(at + 6 + 2 * k - labels[target])
+                                 for k, target in enumerate(targets))
+        code = (self.with_any_bytes(code, start, out[filled:]) if self.style.free_bytes
+                else bytes(code))
         code += bytes([self.style.padding]) * (start + len(code) - end and 1)
         last = start + len(code) + 2 * len(table) + 8
         words = [last - 10 - 2 * k - target for k, target in reversed(list(enumerate(table)))]
-        words += self.words_of_table(2 * self.locals, 2 * self.parameters, last - 4 - leave, last - 2 - start)
+        words += self.words_of_table(2 * self.locals, 2 * self.parameters, last - 4 - leave,
+                                     last - 2 - start)
         return code + b"".join(map(word, words)) + self.end_of_table(), last, len(table)
 
     def with_any_bytes(self, code, start, out):
         """The code with other bytes but for the operands that a link fills in."""
-        kept = {place - start + k for kind, _, place in out for k in range(1 if kind == UNITREF else 2)}
-        return bytes(byte if at in kept else self.source.randrange(256) for at, byte in enumerate(code))
+        kept = {place - start + k
+                for kind, _, place in out
+                for k in range(1 if kind == UNITREF else 2)}
+        return bytes(byte if at in kept else self.source.randrange(256)
+                     for at, byte in enumerate(code))
 
     def words_of_table(self, data, *others):
-        """The data size and the other words: a link reads the data size of the program's outer block alone."""
+        """The data size and the other words: a link reads the data size of the program's outer
+        block alone."""
         if not self.style.free_words:
             return [data, *others]
         any_word = lambda: self.source.randrange(65536)

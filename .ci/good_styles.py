@@ -1,5 +1,6 @@
-"""The styles of good files: those that a UCSD compiler may have, and those that docs/FORMAT.md allows besides. Each sentence of the
-page that allows something is here by its words, with the styles that try it, or why none does."""
+"""The styles of good files: those that a UCSD compiler may have, and those that docs/FORMAT.md
+allows besides. Each sentence of the page that allows something is here by its words, with the
+styles that try it, or why none does."""
 import dataclasses
 import pathlib
 import random
@@ -16,11 +17,15 @@ COMMENT = b"(c) 1979 Regents of the University of California. All rights reserve
 def told(machine, version):
     """What II.1 has of each slot: its number, a machine type and a version."""
     kinds = {SEPRTSEG: 7}
-    return lambda source, slots: {256: [slot + 256 * (kinds.get(slots[slot], machine) + 32 * version) if slot in slots else 0 for slot in range(16)]}
+    return lambda source, slots: {256: [slot
+                                        + 256 * (kinds.get(slots[slot], machine) + 32 * version)
+                                        if slot in slots else 0
+                                        for slot in range(16)]}
 
 
 def text_at(*places):
-    return lambda source, slots: {place: COMMENT[: min(len(COMMENT), 40 if place < 432 else 80)] for place in places}
+    return lambda source, slots: {place: COMMENT[: min(len(COMMENT), 40 if place < 432 else 80)]
+                                  for place in places}
 
 
 def written():
@@ -29,7 +34,8 @@ def written():
         Style("plain"),
         Style("plain, for a big-endian machine", order="big"),
         Style("EXIT of procedures of units", exits=True),
-        Style("tabs and letters above 127 in strings", strings=bytes([9, 10, 12, 13, 27, *range(32, 127), *range(160, 256)])),
+        Style("tabs and letters above 127 in strings",
+              strings=bytes([9, 10, 12, 13, 27, *range(32, 127), *range(160, 256)])),
         Style("a comment at 432", tail=text_at(432)),
         Style("text at 256", tail=text_at(256)),
         Style("text at 296 and at 432", tail=text_at(296, 432)),
@@ -39,7 +45,8 @@ def written():
         Style("blocks that are not cleared", cleared=False),
         Style("old records after the end mark", old_records=True),
         Style("words and a name in the end mark", old_mark=True),
-        Style("more than 31 definitions, and a block that is not cleared", old_records=True, definitions=40),
+        Style("more than 31 definitions, and a block that is not cleared", old_records=True,
+              definitions=40),
         Style("assembled entries", assembled=True),
         Style("assembled entries, and blocks that are not cleared", assembled=True, cleared=False),
         Style("an empty unit", empty_unit=True),
@@ -58,19 +65,24 @@ def written():
         Style("NOP as padding", padding=0xD7),
         Style("segment number 0", numbers=False),
         Style("empty slots and wanted ones with half of an entry", half=True),
-        Style("bytes from 288 on in the dictionary", tail=lambda source, slots: {288: source.randbytes(224)}),
-        Style("all at once", exits=True, cleared=False, old_mark=True, rows=True, returns=True, held=True, assembled=True, empty_unit=True, in_place=True, host_refs=True, definitions=35, tail=text_at(256, 432)),
-    ]  # fmt: skip
+        Style("bytes from 288 on in the dictionary",
+              tail=lambda source, slots: {288: source.randbytes(224)}),
+        Style("all at once", exits=True, cleared=False, old_mark=True, rows=True, returns=True,
+              held=True, assembled=True, empty_unit=True, in_place=True, host_refs=True,
+              definitions=35, tail=text_at(256, 432)),
+    ]
 
 
 # Of the styles below those that a file can have at once.
-AT_ONCE = """short_end clear_bits free_words free_bytes other_numbers odd_tables one_table between operand_numbers host_numbers free_records
-several empty_records unit_definitions high_mark no_procedures other_kinds linked_parts linked_library anywhere empty_addresses free_texts
-gaps half host_refs in_place old_mark noted""".split()
+AT_ONCE = """short_end clear_bits free_words free_bytes other_numbers odd_tables one_table between
+operand_numbers host_numbers free_records several empty_records unit_definitions high_mark
+no_procedures other_kinds linked_parts linked_library anywhere empty_addresses free_texts gaps half
+host_refs in_place old_mark noted""".split()
 
 
 def allowed():
-    """The styles that FORMAT.md allows besides. A note is said of sets of those that have `noted`, and .ci/good counts these."""
+    """The styles that FORMAT.md allows besides. A note is said of sets of those that have `noted`,
+    and .ci/good counts these."""
     return [
         Style("a short last block", short_end=True),
         Style("a short last block, for a big-endian machine", order="big", short_end=True),
@@ -85,7 +97,8 @@ def allowed():
         Style("bytes between procedures", between=True),
         Style("numbers in the operands of UNITREF", operand_numbers=True, exits=True, noted=True),
         Style("numbers of units in the code of the host", host_numbers=True),
-        Style("any words in records", free_records=True, old_mark=True, unit_definitions=True, definitions=5),
+        Style("any words in records", free_records=True, old_mark=True, unit_definitions=True,
+              definitions=5),
         Style("a record for each reference", several=True, host_refs=True),
         Style("records without references", empty_records=True),
         Style("variables of no words", no_words=True),
@@ -101,18 +114,24 @@ def allowed():
         Style("addresses in empty slots", empty_addresses=True, half=True),
         Style("any text addresses", free_texts=True),
         Style("blocks between segments", gaps=True, old_records=True),
-        Style("names that differ in bit 7", near=lambda name: [name, name[:-1] + chr(128 + ord(name[-1]))], noted=True),
-        Style("names that differ in a byte inside", near=lambda name: [name[0] + pad + name[2:] for pad in " \0"], noted=True),
-        Style("names that differ in capitals of national letters", near=lambda name: [name[0] + letter + name[2:] for letter in "\xc4\xe4"], noted=True),
+        Style("names that differ in bit 7",
+              near=lambda name: [name, name[:-1] + chr(128 + ord(name[-1]))], noted=True),
+        Style("names that differ in a byte inside",
+              near=lambda name: [name[0] + pad + name[2:] for pad in " \0"], noted=True),
+        Style("names that differ in capitals of national letters",
+              near=lambda name: [name[0] + letter + name[2:] for letter in "\xc4\xe4"], noted=True),
         Style("a library that is another program", other_program=True),
         Style("entries of other kinds that share bytes", other_kinds=True, shared=True),
-        *(Style(f"all that is allowed at once, {order}-endian", order=order, **dict.fromkeys(AT_ONCE, True)) for order in ("little", "big")),
-    ]  # fmt: skip
+        *(Style(f"all that is allowed at once, {order}-endian", order=order,
+                **dict.fromkeys(AT_ONCE, True))
+          for order in ("little", "big")),
+    ]
 
 
 def styles():
     later = written()
-    earlier = [dataclasses.replace(style, name=f"{style.name}, earlier release", release="earlier") for style in later]
+    earlier = [dataclasses.replace(style, name=f"{style.name}, earlier release", release="earlier")
+               for style in later]
     return later + earlier + allowed()
 
 
@@ -126,18 +145,23 @@ def sets(count):
         yield (style, *Maker(style, random.Random(number)).files())
 
 
-# Permissions ---------------------------------------------------------------------------------------------------------
+# Permissions
+# ---------------------------------------------------------------------------------------------------------
 
 # Words of a sentence that allows something.
 ALLOWS = (
-    r"\b(may|can|accepts?|allowed|ignore[sd]?|harmless|any|needs? no|as good as|not interpret|not read|not check(ed)?|neither reads|not used|"
+    r"\b(may|can|accepts?|allowed|ignore[sd]?|harmless|any|needs? no|as good as|not interpret|not "
+    r"read|not check(ed)?|neither reads|not used|"
     r"nothing|unchanged|without references|unknown order|means that|only with 0|whatever)\b"
 )
 # Each of these sentences by some of its words, and the styles that try it.
 PERMISSIONS = {
-    "The last block may be short": ["a short last block", "a short last block, for a big-endian machine"],
+    "The last block may be short": ["a short last block",
+                                    "a short last block, for a big-endian machine"],
     "A link ignores this bit": ["bit 7 of operands clear"],
-    "the tail, which a link does not interpret": ["any bytes in the tail", "bytes from 288 on in the dictionary", "text at 256"],
+    "the tail, which a link does not interpret": ["any bytes in the tail",
+                                                  "bytes from 288 on in the dictionary",
+                                                  "text at 256"],
     "A library of unknown order": ["a library of linked segments"],
     "| any | length 0 | empty |": ["addresses in empty slots"],
     "linked already, and copied unchanged": ["linked segments in the host"],
@@ -148,23 +172,32 @@ PERMISSIONS = {
     "that the procedure has no body here": ["procedures without a body"],
     "Tables may coincide or overlap": ["two procedures of one table"],
     "A unit may have no procedure": ["units without procedures", "an empty unit"],
-    "Bytes after the end mark are ignored": ["old records after the end mark", "blocks between segments"],
-    "Words that the table leaves blank": ["any words in records", "words and a name in the end mark"],
+    "Bytes after the end mark are ignored": ["old records after the end mark",
+                                             "blocks between segments"],
+    "Words that the table leaves blank": ["any words in records",
+                                          "words and a name in the end mark"],
     "The rest is ignored": ["any words in records"],
     "The host may or may not have a slot": ["plain"],
     "but for word 0 of a variable of no words": ["variables of no words"],
     "one at the end mark may be of a variable of no words": ["public variables of no words"],
     "entries of other kinds may share bytes": ["entries of other kinds that share bytes"],
-    "may be the names of two units": ["names that differ in bit 7", "names that differ in a byte inside", "names that differ in capitals of national letters"],
+    "may be the names of two units": ["names that differ in bit 7",
+                                      "names that differ in a byte inside",
+                                      "names that differ in capitals of national letters"],
     "may be of any type": ["a library that is another program"],
-    "The host's own segments may be in any slot": ["segments in any slots", "linked segments in the host"],
-    "In a library, a unit may be in any slot": ["segments in any slots", "units that were moved to other slots"],
+    "The host's own segments may be in any slot": ["segments in any slots",
+                                                   "linked segments in the host"],
+    "In a library, a unit may be in any slot": ["segments in any slots",
+                                                "units that were moved to other slots"],
     "so a code can be moved unchanged": ["plain"],
     "whatever number its table has": ["any numbers in tables"],
     "It does not check that t is even": ["tables at odd places"],
     "accepts procedures in any order": ["plain", "bytes between procedures"],
     "two of any value, then its number": ["units without procedures"],
-    "**What is not checked**": ["all that is allowed at once, little-endian", "all that is allowed at once, big-endian", "any bytes as instructions", "any words in tables", "bytes between procedures"],
+    "**What is not checked**": ["all that is allowed at once, little-endian",
+                                "all that is allowed at once, big-endian",
+                                "any bytes as instructions", "any words in tables",
+                                "bytes between procedures"],
     "A reference may point to any byte": ["any bytes as instructions"],
     "compares it with nothing": ["a high end mark"],
     "so a missing one may pass": ["zeros as the end mark of a unit"],
@@ -176,9 +209,12 @@ PERMISSIONS = {
     "may already contain the slot numbers": ["numbers of units in the code of the host"],
     "accepts UNITREF records in the host": ["UNITREF records in the host"],
     "a UNITREF without references": ["records without references"],
-    "| dictionary | the text addresses": ["plain", "empty slots and wanted ones with half of an entry", "addresses in empty slots", "any text addresses"],
+    "| dictionary | the text addresses": ["plain",
+                                          "empty slots and wanted ones with half of an entry",
+                                          "addresses in empty slots", "any text addresses"],
     "eight zero bytes are as good": ["empty slots and wanted ones with half of an entry"],
-    "| code | the segment number": ["segment number 0", "blocks that are not cleared", "bytes between procedures"],
+    "| code | the segment number": ["segment number 0", "blocks that are not cleared",
+                                    "bytes between procedures"],
     "| operand of a UNITREF |": ["plain", "numbers in the operands of UNITREF"],
     "| UNITREF, PUBLREF | word C |": ["plain", "any words in records"],
     "| PUBLDEF, CONSTDEF |": ["plain", "any words in records", "definitions in units"],
@@ -192,7 +228,8 @@ PERMISSIONS = {
 # Those that have such a word and allow nothing that a compiler writes.
 OTHERS = {
     "A host of unknown order": "it has no host segment",
-    "| 2, 4, 5 to 7, any other |": "of a host that is refused; of a library, `other kinds in libraries`",
+    "| 2, 4, 5 to 7, any other |": "of a host that is refused; of a library, `other kinds in "
+                                   "libraries`",
     "A link accepts codes that overlap": "a compiler does not write it",
     "No operand of a reference may use them": "a prohibition",
     "and so are types above 14 and any other format": "a refusal",
@@ -215,7 +252,8 @@ OTHERS = {
 
 
 def sentences():
-    """The sentences of FORMAT.md that allow something, and each row of a table or item of a list that such a sentence introduces."""
+    """The sentences of FORMAT.md that allow something, and each row of a table or item of a list
+    that such a sentence introduces."""
     introduced = False
     for line in PAGE.read_text().splitlines():
         is_row = line.startswith(("| ", "- "))
@@ -226,7 +264,8 @@ def sentences():
 
 
 def differences():
-    """Each sentence that allows something and that no style tries, and each permission that is no sentence of the page."""
+    """Each sentence that allows something and that no style tries, and each permission that is no
+    sentence of the page."""
     said, names = list(sentences()), {style.name for style in STYLES}
     for sentence in said:
         cited = [words for words in (*PERMISSIONS, *OTHERS) if words in sentence]
@@ -236,6 +275,10 @@ def differences():
         if (count := sum(words in sentence for sentence in said)) != 1:
             yield f"FORMAT.md has {count} sentences that allow something with the words: {words}"
     for words, tried in PERMISSIONS.items():
-        yield from (f"no style is `{name}`, which tries: {words}" for name in tried if name not in names)
+        yield from (f"no style is `{name}`, which tries: {words}"
+                    for name in tried
+                    if name not in names)
     tried = {name for names in PERMISSIONS.values() for name in names}
-    yield from (f"no sentence of FORMAT.md asks for the style `{style.name}`" for style in allowed() if style.name not in tried)
+    yield from (f"no sentence of FORMAT.md asks for the style `{style.name}`"
+                for style in allowed()
+                if style.name not in tried)

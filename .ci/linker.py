@@ -1,6 +1,7 @@
-"""A linker, written from docs/FORMAT.md, docs/LINKING.md and docs/OUTPUT.md alone and apart from pslink and from vectors/descriptions. It
-is no part of the product: .ci/vectors runs it over the test vectors, and the wrong linkers of .ci/wrong_linkers.py, each
-of which is this one with a change of a few words. So every rule is here once, and in plain words."""
+"""A linker, written from docs/FORMAT.md, docs/LINKING.md and docs/OUTPUT.md alone and apart from
+pslink and from vectors/descriptions. It is no part of the product: .ci/vectors runs it over the
+test vectors, and the wrong linkers of .ci/wrong_linkers.py, each of which is this one with a change
+of a few words. So every rule is here once, and in plain words."""
 import struct
 
 BLOCK = 512
@@ -11,10 +12,12 @@ FORMATS = {UNITREF: 1, PUBLREF: 2, PRIVREF: 2}
 NATIVE, SEPARATE = (2, 5, 6, 9, 10), (11, 12, 13, 14)
 BLANK = (b" " * 8, bytes(8))
 EMPTY, WANTED, PLAIN, HOST, UNIT, OTHER = "empty", "wanted", "plain", "host", "unit", "other"
-NAMES = """ShortFile NoOrder OrderMismatch NoHost TwoHosts DoubledSegment SegmentProcedure NativeSegment Intrinsic
-    UnknownKind BadLength BadAddress MissingUnit NotAUnit DoubledUnit Truncated BadProcDict NativeProcedure
-    RecordsTruncated UnknownRecord NativeRecord SeparateRecord BadFormat DoubledDefinition DoubledPrivate NoRoom
-    DataTooLarge MissingDefinition IllKind MissingUnitRef OutsideCode ReservedPlace Overlap OperandTooLarge NoSlot""".split()
+NAMES = """ShortFile NoOrder OrderMismatch NoHost TwoHosts DoubledSegment
+    SegmentProcedure NativeSegment Intrinsic UnknownKind BadLength BadAddress MissingUnit
+    NotAUnit DoubledUnit Truncated BadProcDict NativeProcedure RecordsTruncated
+    UnknownRecord NativeRecord SeparateRecord BadFormat DoubledDefinition DoubledPrivate
+    NoRoom DataTooLarge MissingDefinition IllKind MissingUnitRef OutsideCode
+    ReservedPlace Overlap OperandTooLarge NoSlot""".split()
 
 
 class Fault(Exception):
@@ -23,7 +26,8 @@ class Fault(Exception):
     def __init__(self, number, file, slot=None, record=None, reference=None, kind=None):
         super().__init__(number)
         self.number, self.name = number, NAMES[number - 1]
-        self.parts = {"kind": kind, "file": file, "slot": slot, "record": record, "reference": reference}
+        self.parts = {"kind": kind, "file": file, "slot": slot, "record": record,
+                      "reference": reference}
 
     def line(self):
         parts = [f"{word} {value}" for word, value in self.parts.items() if value is not None]
@@ -34,7 +38,7 @@ def blocks(length):
     return (length + BLOCK - 1) // BLOCK
 
 
-# Files and slots (FORMAT.md, The segment dictionary) ------------------------------------------------------------------
+# Files and slots (FORMAT.md, The segment dictionary) ----------------------------------------------
 
 
 def order_of(data):
@@ -74,15 +78,15 @@ class CodeFile:
         kinds = struct.unpack_from(f"{self.sign}16H", data, 192)
         texts = struct.unpack_from(f"{self.sign}16H", data, 224)
         names = [data[64 + 8 * slot : 72 + 8 * slot] for slot in range(16)]
-        self.slots = [
-            Slot(self, slot, places[2 * slot], places[2 * slot + 1], names[slot], kinds[slot], texts[slot]) for slot in range(16)
-        ]
+        self.slots = [Slot(
+                          self, slot, places[2 * slot], places[2 * slot + 1], names[slot],
+                          kinds[slot], texts[slot]) for slot in range(16)]
 
     def word(self, code, place):
         return int.from_bytes(code[place : place + 2], self.order)
 
 
-# Codes and link information (FORMAT.md, The code of a slot, Link information) -----------------------------------------
+# Codes and link information (FORMAT.md, The code of a slot, Link information) ---------------------
 
 
 def code_of(entry, slot):
@@ -174,7 +178,7 @@ def records_of(entry, slot):
         index += 1
 
 
-# Where segments come from (LINKING.md) --------------------------------------------------------------------------------
+# Where segments come from (LINKING.md) ------------------------------------------------------------
 
 
 class Segment:
@@ -196,7 +200,8 @@ class Segment:
 
 
 class Link:
-    """A link of a host and its libraries, given as bytes. Each step raises the first fault that it finds."""
+    """A link of a host and its libraries, given as bytes. Each step raises the first fault that it
+    finds."""
 
     def __init__(self, host, libraries):
         self.host = self.host_of(host)
@@ -280,7 +285,8 @@ class Link:
         return Segment(slot.index, self.unit_of(entries, slot.index), slot.name)
 
     def add_units(self):
-        """Units for which the host has no slot: a queue of the names, each with the record that requests it first."""
+        """Units for which the host has no slot: a queue of the names, each with the record that
+        requests it first."""
         queue = []
         free = [slot.index for slot in self.host.slots[7:16] if slot.role == EMPTY]
         for segment in self.segments:
@@ -388,22 +394,27 @@ class Link:
             if segment.added:
                 names[segment.slot] = segment.name
             starts[segment.slot] = 1 + len(codes) // BLOCK
-            places[2 * segment.slot : 2 * segment.slot + 2] = starts[segment.slot], len(segment.code)
+            places[2 * segment.slot : 2 * segment.slot + 2] = starts[segment.slot], len(
+                segment.code)
             codes += bytes(segment.code) + bytes(-len(segment.code) % BLOCK)
-        block = struct.pack(f"{self.host.sign}32H", *places) + b"".join(names) + bytes(64) + self.host.data[256:512]
+        block = struct.pack(f"{self.host.sign}32H", *places) + b"".join(names)
+        block += bytes(64) + self.host.data[256:512]
         return block + codes, starts
 
     def summary(self):
-        return f"segments {len(self.segments)} private words {self.words} blocks {len(self.file()[0]) // BLOCK}"
+        return (f"segments {len(self.segments)} private words {self.words} blocks "
+                f"{len(self.file()[0]) // BLOCK}")
 
     def map(self):
         linked, starts = self.file()
         for one in self.segments:
-            line = f"segment {one.slot:02} {printed(one.name)} file {one.file.number} entry {one.entry.index:02}"
+            line = (f"segment {one.slot:02} {printed(one.name)} file {one.file.number} "
+                    f"entry {one.entry.index:02}")
             end = " added" if one.added else ""
             yield f"{line} block {starts[one.slot]} length {len(one.code)}{end}"
         for name, record in self.definitions.items():
-            yield f"{'public' if record.type == PUBLDEF else 'constant'} {printed(name)} value {record.value}"
+            kind = "public" if record.type == PUBLDEF else "constant"
+            yield f"{kind} {printed(name)} value {record.value}"
         for slot, name, offset, words in self.privates:
             yield f"private {slot:02} {printed(name)} offset {offset} words {words}"
         yield f"next {self.next} data {self.data} blocks {len(linked) // BLOCK}"
@@ -423,7 +434,8 @@ def show(data):
     file = CodeFile(data, 0, order or "little")
     yield f"order {order or 'unknown'}"
     for slot in file.slots:
-        yield (f"slot {slot.index:02} {printed(slot.name)} kind {slot.kind} address {slot.address} length {slot.length} "
+        yield (f"slot {slot.index:02} {printed(slot.name)} kind {slot.kind} address {slot.address} "
+               f"length {slot.length} "
                f"text {slot.text}")
     units = {slot.name for slot in file.slots if slot.role in (UNIT, WANTED)}
     for slot in file.slots:

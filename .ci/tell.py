@@ -1,5 +1,6 @@
-"""Runs the linker of linker.py and the wrong ones of wrong_linkers.py over the test vectors, in a few processes: which of them answers
-each case as its description says, and which cases tell the others."""
+"""Runs the linker of linker.py and the wrong ones of wrong_linkers.py over the test vectors, in a
+few processes: which of them answers each case as its description says, and which cases tell the
+others."""
 import contextlib
 import functools
 import heapq
@@ -28,7 +29,8 @@ class Row:
     def __init__(self, what, *items):
         self.what = what
         if len(items) % 3:
-            items = [item for k in range(1, len(items), 2) for item in (items[0], *items[k : k + 2])]
+            items = [item for k in range(1, len(items), 2) for item in (
+                         items[0], *items[k : k + 2])]
         self.changes = {}
         for function, old, new in (items[k : k + 3] for k in range(0, len(items), 3)):
             text = self.changes.get(function, source_of(function))
@@ -61,7 +63,8 @@ class Row:
 
 
 def owner_of(function):
-    """The module or the class that has a function, and its name there. A method that one class has may stand without the class."""
+    """The module or the class that has a function, and its name there. A method that one class has
+    may stand without the class."""
     owner, _, name = function.rpartition(".")
     if owner:
         return getattr(linker, owner), name
@@ -94,7 +97,8 @@ def rows():
         yield from (Row(*row) for row in getattr(wrong_linkers, table))
     for looseness, form in wrong_linkers.LOOSE.items():
         for what, *items in wrong_linkers.COMPARED:
-            loose = [re.sub(r"\{([\w.]+)\}", lambda match: form.format(match[1]), item) for item in items]
+            loose = [re.sub(r"\{([\w.]+)\}", lambda match: form.format(match[1]), item)
+                     for item in items]
             yield Row(f"{what} are compared {looseness}", *loose)
 
 
@@ -107,8 +111,10 @@ class Case:
 
         self.name, self.words = case["name"], words_of(f"{case['name']} {case['about']}")
         self.files = read(case["host"]), [read(name) for name in case["libraries"]]
-        self.linked = case["stderr"] if case["fault"] else (case["stdout"], read(case["linked"]), read(case["map"]).decode())
-        self.shows = [(read(name), read(show["stdout"]).decode() if show["stdout"] else show["stderr"])
+        self.linked = case["stderr"] if case["fault"] else (
+            case["stdout"], read(case["linked"]), read(case["map"]).decode())
+        self.shows = [(read(name),
+                       read(show["stdout"]).decode() if show["stdout"] else show["stderr"])
                       for name, show in case["shows"].items()]
         self.cost = sum(len(record) for record, _ in self.shows) + 2000 * len(case["libraries"])
 
@@ -116,7 +122,8 @@ class Case:
         """The link is as expected: its summary, its bytes and its map, or its fault."""
         try:
             link = linker.Link(*self.files)
-            answer = f"{link.summary()}\n", link.file()[0], "".join(f"{line}\n" for line in link.map())
+            answer = f"{link.summary()}\n", link.file()[0], "".join(
+                f"{line}\n" for line in link.map())
         except linker.Fault as fault:
             answer = f"pslink: {fault.line()}\n"
         return answer == self.linked
@@ -137,16 +144,19 @@ def words_of(text):
 
 
 def asked(row):
-    """The questions for a wrong linker: each show if no link can tell it, or else each link and then each show. Before them come those about
-    cases whose names and sentences share most words with what is wrong."""
+    """The questions for a wrong linker: each show if no link can tell it, or else each link and
+    then each show. Before them come those about cases whose names and sentences share most words
+    with what is wrong."""
     words, questions = words_of(row.what), SHOWS if row.is_of_shows else LINKS
-    first = heapq.nlargest(LIKELY, questions, key=lambda question: len(words & question.__self__.words))
+    first = heapq.nlargest(
+        LIKELY, questions, key=lambda question: len(words & question.__self__.words))
     return itertools.chain(first, questions, [] if row.is_of_shows else SHOWS)
 
 
 def is_right(answers, linker):
-    """Whether a question is answered as expected. A linker that has no answer in some seconds is wrong. One that fails is not told by
-    that: its failure is none of the rule, but of its few words."""
+    """Whether a question is answered as expected. A linker that has no answer in some seconds is
+    wrong. One that fails is not told by that: its failure is none of the rule, but of its few
+    words."""
     signal.alarm(SECONDS)
     try:
         return answers(linker)
@@ -173,10 +183,12 @@ def large_rows():
 
 
 def tell(cases, wrong_ones):
-    """The wrong linkers, the cases that tell them, and what is wrong: a right linker that differs, a wrong one that does not."""
+    """The wrong linkers, the cases that tell them, and what is wrong: a right linker that differs,
+    a wrong one that does not."""
     signal.signal(signal.SIGALRM, stopped)
     loaded, found = sorted(map(Case, cases), key=lambda case: case.cost), []
-    LINKS[:], SHOWS[:], ROWS[:] = [case.is_linked_by for case in loaded], [case.is_shown_by for case in loaded], wrong_ones
+    LINKS[:], SHOWS[:], ROWS[:] = [case.is_linked_by for case in loaded], [
+        case.is_shown_by for case in loaded], wrong_ones
     if question := next((question for question in [*LINKS, *SHOWS] if not question(linker)), None):
         found.append(f"linker.py answers {question.__self__.name} otherwise")
     with multiprocessing.get_context("fork").Pool() as pool:
@@ -189,11 +201,14 @@ def tell(cases, wrong_ones):
     return told, found
 
 
-LINKS, SHOWS, ROWS = [], [], []  # the links and the shows of the cases, those of small files first, and the rows, which each process has
+# the links and the shows of the cases, those of small files first, and the rows, which each process
+# has
+LINKS, SHOWS, ROWS = [], [], []
 
 
 def told_by(index):
-    """What is wrong in a row, and the case that tells it, which is asked first from then on; or None."""
+    """What is wrong in a row, and the case that tells it, which is asked first from then on; or
+    None."""
     row = ROWS[index]
     with row.linker() as wrong:
         question = differing(wrong, asked(row))

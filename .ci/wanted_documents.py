@@ -1,9 +1,10 @@
-"""The documents that `pslink --json` prints, made of the files alone: by the linker of linker.py, and by docs/JSON.md and docs/OUTPUT.md. Nothing
-here is what pslink prints."""
+"""The documents that `pslink --json` prints, made of the files alone: by the linker of linker.py,
+and by docs/JSON.md and docs/OUTPUT.md. Nothing here is what pslink prints."""
 import types
 
 import linker
-from linker import CONSTDEF, EMPTY, EOFMARK, HOST, OTHER, PLAIN, PRIVREF, PUBLDEF, PUBLREF, UNIT, UNITREF, WANTED, Fault
+from linker import (CONSTDEF, EMPTY, EOFMARK, HOST, OTHER, PLAIN, PRIVREF, PUBLDEF, PUBLREF, UNIT,
+                    UNITREF, WANTED, Fault)
 
 UNREAD = range(19, 24)  # the faults of a record that cannot be read
 REFUSED_KINDS = {2: 7, 4: 8, 5: 9, 6: 9, 7: 9}
@@ -12,7 +13,7 @@ READABLE = {0, *range(32, 127), *range(128, 256)}
 LETTERS = {8: "b", 9: "t", 10: "n", 12: "f", 13: "r", 34: '"', 92: "\\"}
 
 
-# JSON.md, Forms ---------------------------------------------------------------------------------------------------------
+# JSON.md, Forms -----------------------------------------------------------------------------------
 
 
 class Lines(list):
@@ -39,7 +40,8 @@ def written(value):
         return "{" + ",".join(f"{string(key)}:{written(item)}" for key, item in value.items()) + "}"
     if isinstance(value, str):
         return string(value)
-    return {None: "null", True: "true", False: "false"}[value] if value is None or isinstance(value, bool) else str(value)
+    return {None: "null", True: "true", False: "false"}[value] if value is None or isinstance(
+        value, bool) else str(value)
 
 
 def named(name):
@@ -53,12 +55,13 @@ def fault_of(fault, name):
 
 
 def refusal_document(files, out, fault):
-    """JSON.md, Refusals: the document of the files at these paths, which were to be linked to `out` if it is not None, for a fault."""
+    """JSON.md, Refusals: the document of the files at these paths, which were to be linked to `out`
+    if it is not None, for a fault."""
     path = {"path": str(files[fault["file"]])}
     return {**path, "fault": fault} if out is None else {**path, "out": str(out), "fault": fault}
 
 
-# A link -----------------------------------------------------------------------------------------------------------------
+# A link -------------------------------------------------------------------------------------------
 
 
 class Tried(linker.Link):
@@ -75,8 +78,8 @@ class Tried(linker.Link):
         return fault_of(self.fault, self.name())
 
     def name(self):
-        """What the fault is about: the name in its record; else that of its slot in the host or, where the slot is empty, of the unit that
-        is added there."""
+        """What the fault is about: the name in its record; else that of its slot in the host or,
+        where the slot is empty, of the unit that is added there."""
         slot, record = self.fault.parts["slot"], self.fault.parts["record"]
         if slot is None:
             return None
@@ -99,7 +102,8 @@ class Tried(linker.Link):
         return len(self.file()[0]) // linker.BLOCK
 
     def link_document(self):
-        return {"segments": len(self.segments), "private_words": self.words, "blocks": self.blocks()}
+        return {"segments": len(self.segments), "private_words": self.words,
+                "blocks": self.blocks()}
 
     def verdict(self):
         """What the document of a check begins with."""
@@ -111,22 +115,29 @@ class Tried(linker.Link):
         _, starts = self.file()
         segments = Lines(self.segment_item(one, starts[one.slot]) for one in self.segments)
         definitions = Lines(
-            {"kind": "public" if record.type == PUBLDEF else "constant", **named(name), "value": record.value} for name, record in self.definitions.items()
-        )
-        privates = Lines({"slot": slot, **named(name), "offset": offset, "words": words} for slot, name, offset, words in self.privates)
+            {"kind": "public" if record.type == PUBLDEF else "constant", **named(name),
+             "value": record.value}
+            for name, record in self.definitions.items())
+        privates = Lines(
+            {"slot": slot, **named(name), "offset": offset, "words": words}
+            for slot, name, offset, words in self.privates)
         document = {"segments": segments, "definitions": definitions, "privates": privates}
         document |= {"next": self.next, "data": self.data, "blocks": self.blocks()}
         if with_references:
-            document["references"] = Lines(item for one in self.segments if one.is_resolved for item in self.stored_items(one, starts[one.slot]))
+            document["references"] = Lines(
+                item for one in self.segments if one.is_resolved for item in self.stored_items(
+                    one, starts[one.slot]))
         return document
 
     @staticmethod
     def segment_item(one, block):
         place = {"file": one.file.number, "entry": one.entry.index, "block": block}
-        return {"slot": one.slot, **named(one.name), **place, "length": len(one.code), "added": one.added}
+        return {"slot": one.slot, **named(one.name), **place, "length": len(one.code),
+                "added": one.added}
 
     def places(self, one):
-        """What a link stores in a code: the word for it, the place, how many bytes, and the record."""
+        """What a link stores in a code: the word for it, the place, how many bytes, and the
+        record."""
         yield "number", len(one.code) - 2, 1, None
         if one is self.program:
             yield "data size", one.tables[1] - 8, 2, None
@@ -143,12 +154,14 @@ class Tried(linker.Link):
     def stored_item(one, block, word, place, width, record):
         before = linker.code_of(one.entry, one.slot)
         was, now = (bytes(code[place : place + width]).hex().upper() for code in (before, one.code))
-        item = {"stores": word, "slot": one.slot, **named(one.name), "at": place, "offset": linker.BLOCK * block + place, "was": was, "is": now}
-        of_record = record and {"kind": linker.RECORDS[record.type], **named(record.name), "index": record.index}
+        item = {"stores": word, "slot": one.slot, **named(one.name), "at": place,
+                "offset": linker.BLOCK * block + place, "was": was, "is": now}
+        of_record = record and {"kind": linker.RECORDS[record.type], **named(record.name),
+                                "index": record.index}
         return {**item, "record": of_record}
 
 
-# A file by itself -------------------------------------------------------------------------------------------------------
+# A file by itself ---------------------------------------------------------------------------------
 
 
 def opened(data):
@@ -162,7 +175,8 @@ def opened(data):
 
 
 def read_to_list(data):
-    """OUTPUT.md, List, ORDER: the file, read in the order in which a slot with a name has its code, where no kind says it."""
+    """OUTPUT.md, List, ORDER: the file, read in the order in which a slot with a name has its code,
+    where no kind says it."""
     if linker.order_of(data) is None and len(data) >= linker.BLOCK:
         little, big = (linker.CodeFile(data, 0, order) for order in ("little", "big"))
         return big if has_code(big) and not has_code(little) else little
@@ -179,7 +193,8 @@ def show_document(data):
     """OUTPUT.md, Show."""
     file = opened(data)
     units = {slot.name for slot in file.slots if slot.role in (UNIT, WANTED)}
-    return {"order": linker.order_of(data) or "unknown", "slots": Lines(shown(slot, units) for slot in file.slots)}
+    return {"order": linker.order_of(data) or "unknown",
+            "slots": Lines(shown(slot, units) for slot in file.slots)}
 
 
 def shown(slot, units):
@@ -198,7 +213,8 @@ def shown_records(slot, units):
     index = 0
     try:
         for record in linker.records_of(slot, slot.index):
-            yield {"record": index, "kind": linker.RECORDS[record.type], **shown_record(record, units)}
+            yield {"record": index, "kind": linker.RECORDS[record.type],
+                   **shown_record(record, units)}
             index += 1
     except Fault as fault:
         yield {"record": index, "kind": "fault", "fault": fault_of(fault, slot.name)}
@@ -215,8 +231,8 @@ def shown_record(record, units):
 
 
 def is_code_file(file):
-    """OUTPUT.md, List: an entry has a kind up to 7 and a name of bytes that ASCII prints, zeros and bytes above 127; where all kinds are 0,
-    one with a name has its code."""
+    """OUTPUT.md, List: an entry has a kind up to 7 and a name of bytes that ASCII prints, zeros and
+    bytes above 127; where all kinds are 0, one with a name has its code."""
     if not any(slot.kind for slot in file.slots):
         return has_code(file)
     named_slots = [slot for slot in file.slots if slot.is_filled and slot.name not in linker.BLANK]
@@ -245,7 +261,8 @@ def contents_of(file):
 
 
 def type_of(data, types):
-    """TYPE: one of these by bytes; of any other file that is tried, what is no code file has one byte throughout, or no known form."""
+    """TYPE: one of these by bytes; of any other file that is tried, what is no code file has one
+    byte throughout, or no known form."""
     if data in types:
         return types[data]
     if len(set(data)) == 1:
@@ -257,8 +274,10 @@ def type_of(data, types):
 def list_item(path, data, with_units, types):
     """OUTPUT.md, List: the item of a file, or of a path where none can be read."""
     if data is None:
-        return {"path": path, "length": None, "type": None, "order": None, "contents": None, "fault": None, "segments": Lines()}
-    item = {"path": path, "length": len(data), "type": type_of(data, types), "order": None, "contents": None, "fault": None}
+        return {"path": path, "length": None, "type": None, "order": None, "contents": None,
+                "fault": None, "segments": Lines()}
+    item = {"path": path, "length": len(data), "type": type_of(data, types), "order": None,
+            "contents": None, "fault": None}
     slots = []
     if fault := fault_of_step(opened, data):
         item["fault"] = fault_of(fault, None)
@@ -268,12 +287,16 @@ def list_item(path, data, with_units, types):
         slots = [] if item["type"] else [slot for slot in file.slots if slot.role != EMPTY]
     item["segments"] = Lines(listed(slot) for slot in slots)
     if with_units:
-        item["units"] = Lines({"slot": slot.index, **named(slot.name), "fault": by_itself(slot)} for slot in slots if slot.role == UNIT)
+        item["units"] = Lines(
+            {"slot": slot.index, **named(slot.name), "fault": by_itself(slot)}
+            for slot in slots
+            if slot.role == UNIT)
     return item
 
 
 def list_document(files, with_units, types):
-    """The document of files, each a path and its bytes; `types` has what those with these bytes are that are no code files."""
+    """The document of files, each a path and its bytes; `types` has what those with these bytes are
+    that are no code files."""
     return {"files": Lines(list_item(path, data, with_units, types) for path, data in files)}
 
 
@@ -284,24 +307,29 @@ def listed(slot):
         return {**item, "role": "wanted", "length": None, "fault": None, "uses": []}
     if slot.role == OTHER:
         fault = Fault(REFUSED_KINDS.get(slot.kind, UNKNOWN_KIND), 0, slot.index)
-        return {**item, "role": None, "length": slot.length, "fault": fault_of(fault, slot.name), "uses": []}
-    item |= {"role": {PLAIN: "linked", HOST: "host", UNIT: "unit"}[slot.role], "length": slot.length}
+        return {**item, "role": None, "length": slot.length, "fault": fault_of(fault, slot.name),
+                "uses": []}
+    item |= {"role": {PLAIN: "linked", HOST: "host", UNIT: "unit"}[slot.role],
+             "length": slot.length}
     try:
         records = linker.Segment(slot.index, slot, slot.name).records
     except Fault as fault:
         return {**item, "fault": fault_of(fault, slot.name), "uses": []}
-    return {**item, "fault": None, "uses": [named(record.name) for record in records if record.type == UNITREF]}
+    return {**item, "fault": None,
+            "uses": [named(record.name) for record in records if record.type == UNITREF]}
 
 
 def by_itself(slot):
-    """OUTPUT.md, Units by themselves: the first fault of a unit in a link with a host that would define each name, with the base offset 1."""
+    """OUTPUT.md, Units by themselves: the first fault of a unit in a link with a host that would
+    define each name, with the base offset 1."""
     link = linker.Link.__new__(linker.Link)
     link.program = types.SimpleNamespace(records=[types.SimpleNamespace(value=1)])
     try:
         unit = linker.Segment(slot.index, slot, slot.name)
         public = types.SimpleNamespace(type=PUBLDEF, value=1)
         link.segments, link.units = [unit], {record.name: 0 for record in unit.records}
-        link.definitions = {record.name: public for record in unit.records if record.type == PUBLREF}
+        link.definitions = {
+            record.name: public for record in unit.records if record.type == PUBLREF}
         link.allot()
         link.resolve(unit)
     except Fault as fault:
