@@ -93,8 +93,8 @@ def module_of(source):
 
 def rows():
     """The wrong linkers that the cases that are kept tell."""
-    for table in ("FILES", "ROLES", "CODES", "RECORDS", "SOURCES", "ADDED", "VALUES", "REFERENCES", "WRITTEN"):
-        yield from (Row(*row) for row in getattr(wrong_linkers, table))
+    for table in wrong_linkers.KEPT:
+        yield from (Row(*row) for row in wrong_linkers.TABLES[table])
     for looseness, form in wrong_linkers.LOOSE.items():
         for what, *items in wrong_linkers.COMPARED:
             loose = [re.sub(r"\{([\w.]+)\}", lambda match: form.format(match[1]), item)
@@ -179,7 +179,7 @@ def differing(linker, questions):
 
 def large_rows():
     """The wrong linkers that the cases of megabytes tell."""
-    return (Row(*row) for row in wrong_linkers.LARGE)
+    return (Row(*row) for row in wrong_linkers.TABLES["LARGE"])
 
 
 def tell(cases, wrong_ones):
