@@ -1,14 +1,14 @@
 #!/usr/bin/env python3
-"""Times `pslink` on large and on hostile files: links of a host of many definitions with a unit of many one-byte
-operands, of a unit of many private variables, of a host whose fifteen units share many private variables, public or
-unit references or one-byte operands, of sixteen segments all of whose bytes are operands in shuffled lists, and of
-definitions whose names would collide in a hash table; and a show of many references.
+"""Times `pslink` on large and on hostile files: links of a host of many definitions with a unit of
+many one-byte operands, of a unit of many private variables, of a host whose fifteen units share
+many private variables, public or unit references or one-byte operands, of sixteen segments all of
+whose bytes are operands in shuffled lists, and of definitions whose names would collide in a hash
+table; and a show of many references.
 
 Usage: large_files.py PSLINK
 
-Twice the records should take about twice the time, and names that collide as long as names that do not.
-docs/FORMAT.md says what the parts of the files mean.
-"""
+Twice the records should take about twice the time, and names that collide as long as names that do
+not. docs/FORMAT.md says what the parts of the files mean. """
 
 import random
 import struct
@@ -74,7 +74,8 @@ def records_of(count, *words_of_each):
 
 
 def file_of(segments):
-    """A code file; each segment is (slot, name, kind, code, records), and one that is only asked for has no code."""
+    """A code file; each segment is (slot, name, kind, code, records), and one that is only asked
+    for has no code."""
     entries, blocks = [], b""
     for slot, name, kind, code_of_it, records in segments:
         address = 1 + len(blocks) // BLOCK if code_of_it else 0
@@ -114,7 +115,9 @@ def library_of_privates(privates):
 
 def library_of_references(count):
     places = [n % 32_000 for n in range(REFERENCES_OF_A_RECORD)]
-    return unit(code(bytes(4), 2), referring(b"COUNT   ", PUBLREF, BIG, places) * (count // REFERENCES_OF_A_RECORD))
+    return unit(
+        code(bytes(4), 2),
+        referring(b"COUNT   ", PUBLREF, BIG, places) * (count // REFERENCES_OF_A_RECORD))
 
 
 def host_of_a_shared_row(records, body=bytes(4)):
@@ -125,13 +128,15 @@ def host_of_a_shared_row(records, body=bytes(4)):
     units = [(slot, name, UNITSEG, after, len(shared)) for slot, name in enumerate(names, 1)]
     information = whole_blocks(record(b"COUNT   ", PUBLDEF, 3) + end_mark(8))
     entries = [(0, b"DEMO    ", HOSTSEG, 1, len(segment))] + units
-    return dictionary(entries) + whole_blocks(segment) + information + whole_blocks(shared) + records + end_mark()
+    return dictionary(entries) + whole_blocks(segment) + information + whole_blocks(
+        shared) + records + end_mark()
 
 
 def shuffled_operands(shuffled, publics, privates, units):
-    """Records whose references are all bytes of a code of OPERANDS bytes: public, private and unit references in turn,
-    those of a name in no order."""
-    kinds = cycle(((PUBLREF, BIG, 2, publics), (PRIVREF, BIG, 2, privates), (UNITREF, BYTE, 1, units)))
+    """Records whose references are all bytes of a code of OPERANDS bytes: public, private and unit
+    references in turn, those of a name in no order."""
+    kinds = cycle(
+        ((PUBLREF, BIG, 2, publics), (PRIVREF, BIG, 2, privates), (UNITREF, BYTE, 1, units)))
     lists, place = {}, 0
     for kind, form, width, names in kinds:
         if place + width > OPERANDS:
@@ -140,13 +145,15 @@ def shuffled_operands(shuffled, publics, privates, units):
         place += width
     for places in lists.values():
         shuffled.shuffle(places)
-    records = [referring(*key, places, 20 if key[1] == PRIVREF else 0) for key, places in lists.items()]
+    records = [referring(*key, places, 20 if key[1] == PRIVREF else 0)
+               for key, places in lists.items()]
     shuffled.shuffle(records)
     return b"".join(records)
 
 
 def files_full_of_operands():
-    """A host and three libraries with its fifteen units, each a segment all of whose bytes are operands."""
+    """A host and three libraries with its fifteen units, each a segment all of whose bytes are
+    operands."""
     shuffled = random.Random("operands")
     publics = [b"PUBL%04d" % n for n in range(200)]
     privates = [b"PRIV%04d" % n for n in range(40)]
@@ -156,14 +163,16 @@ def files_full_of_operands():
         return shuffled_operands(shuffled, of_publics, of_privates, units)
 
     definitions = b"".join(record(name, PUBLDEF, 3 * n) for n, name in enumerate(publics))
-    host = (0, b"DEMO    ", HOSTSEG, code(bytes(OPERANDS), 1), definitions + full(publics, privates) + end_mark(8))
+    host = (0, b"DEMO    ", HOSTSEG, code(bytes(OPERANDS), 1),
+            definitions + full(publics, privates) + end_mark(8))
     wanted = [(slot, name, UNITSEG, b"", b"") for slot, name in enumerate(units, 1)]
     files = {"host": file_of([host, *wanted])}
     for library in range(3):
         segments = []
         for slot, name in list(enumerate(units, 1))[5 * library : 5 * library + 5]:
             records = full(shuffled.sample(publics, 20), shuffled.sample(privates, 20))
-            segments.append((slot, name, UNITSEG, code(bytes(OPERANDS), slot), records + end_mark()))
+            segments.append(
+                (slot, name, UNITSEG, code(bytes(OPERANDS), slot), records + end_mark()))
         files[f"library{library}"] = file_of(segments)
     return files
 
@@ -175,8 +184,9 @@ def folded(state, number, length):
 
 
 def colliding_names():
-    """Names that a table with that hasher, whose seed is fixed, would all seek from neighbouring places: it goes by the
-    lowest bits of their hashes, thirteen in a table of so many names, and of those the upper ten are zero."""
+    """Names that a table with that hasher, whose seed is fixed, would all seek from neighbouring
+    places: it goes by the lowest bits of their hashes, thirteen in a table of so many names, and of
+    those the upper ten are zero."""
     letters = [(letter, letter * 0x01_01_01) for letter in b"ABCDEFGHIJKLMNOPQRSTUVWXYZ0123456789"]
     start = folded(0x243F_6A88_85A3_08D3, 8, 8)
     for front in product(letters, repeat=6):
@@ -205,7 +215,8 @@ class Bench:
         self.program, self.folder = program, folder
 
     def timed(self, what, *args, **files):
-        """Times the program with these args over these files, and prints what it took and what it answered."""
+        """Times the program with these args over these files, and prints what it took and what it
+        answered."""
         for name, data in files.items():
             (self.folder / name).write_bytes(data)
         start = time.perf_counter()
@@ -221,13 +232,17 @@ class Bench:
         self.timed(f"the map of {count} definitions", "map", "host", "library")
         self.timed(f"{count} private variables", "link", "host", "out", "library",
                    host=host_of_definitions(1), library=library_of_privates(count))
-        for what, kind, form in (("private variables", PRIVREF, BIG), ("public references", PUBLREF, BIG),
+        for what, kind, form in (("private variables", PRIVREF, BIG),
+                                 ("public references", PUBLREF, BIG),
                                  ("unit references", UNITREF, BYTE)):
             if kind == PRIVREF:
                 records = records_of(count, kind, form)
             else:
-                records = record(b"COUNT   " if kind == PUBLREF else b"UNIT0015", kind, form) * count
-            self.timed(f"15 times {count} {what}", "link", "host", "out", host=host_of_a_shared_row(records))
+                records = record(
+                    b"COUNT   " if kind == PUBLREF else b"UNIT0015", kind, form) * count
+            self.timed(
+                f"15 times {count} {what}", "link", "host", "out",
+                host=host_of_a_shared_row(records))
 
     def of_operands(self):
         """Segments all of whose bytes are operands."""
@@ -240,10 +255,12 @@ class Bench:
         self.timed(f"the map of {what}", "map", host, *libraries)
 
     def of_names(self):
-        """Definitions whose names would collide in a hash table, and as many whose names would not."""
+        """Definitions whose names would collide in a hash table, and as many whose names would
+        not."""
         for what, names in (("collide", colliding_names()), ("do not collide", spread_names())):
-            self.timed(f"{COLLIDING} definitions whose names {what}", "link", "host", "out", "library",
-                       host=host_of_names(names), library=library_of_operands())
+            self.timed(
+                f"{COLLIDING} definitions whose names {what}", "link", "host", "out", "library",
+                host=host_of_names(names), library=library_of_operands())
 
 
 def main():
@@ -256,7 +273,9 @@ def main():
         bench.of_operands()
         bench.of_names()
         for count in (8 * MILLION, 16 * MILLION, 32 * MILLION):
-            bench.timed(f"a show of {count} references", "show", "library", library=library_of_references(count))
+            bench.timed(
+                f"a show of {count} references", "show", "library",
+                library=library_of_references(count))
 
 
 if __name__ == "__main__":

@@ -1,16 +1,20 @@
-"""Reads what the command line accepts, with its texts, from crates/ps_arguments/src/command_line.rt: the commands, their arguments and
-their help, as values."""
+"""Reads what the command line accepts, with its texts, from
+crates/ps_arguments/src/command_line.rt: the commands, their arguments and their help, as values."""
 import pathlib
 import re
 
 HERE = pathlib.Path(__file__).resolve().parent
 SOURCE = HERE.parent / "crates/ps_arguments/src/command_line.rt"
-TOKEN = re.compile(r"""\s+|//[^\n]*|(?P<text>"(?:[^"\\]|\\.)*")|'(?P<letter>[^'\\])'|(?P<word>\w+(?:::\w+)*)|(?P<sign>.)""", re.S)
+TOKEN = re.compile(
+    r"""\s+|//[^\n]*|(?P<text>"(?:[^"\\]|\\.)*")|'(?P<letter>[^'\\])'|"""
+    r"(?P<word>\w+(?:::\w+)*)|(?P<sign>.)",
+    re.S)
 ESCAPES = {'\\"': '"', "\\\\": "\\", "\\n": "\n"}
 
 
 class Source:
-    """The constants of a file of Rattle, as values: a text, a list, a struct as a dictionary, and a call as its name and its values."""
+    """The constants of a file of Rattle, as values: a text, a list, a struct as a dictionary, and a
+    call as its name and its values."""
 
     def __init__(self, text):
         self.text, self.known = text, {}
@@ -57,7 +61,8 @@ class Tokens:
     """The tokens of a text, of which the last may be put back."""
 
     def __init__(self, text):
-        self.found = ((match.lastgroup, match[match.lastgroup]) for match in TOKEN.finditer(text) if match.lastgroup)
+        self.found = ((match.lastgroup, match[match.lastgroup]) for match in TOKEN.finditer(
+                          text) if match.lastgroup)
         self.kept = []
 
     def __next__(self):
@@ -86,7 +91,8 @@ def argument(form):
         return {**named, "positional": True, "required": kind != "AnyFiles", "many": kind != "File"}
     if kind in ("Flag", "LetteredFlag"):
         return {**named, "long": values[0], "short": values[1] if kind == "LetteredFlag" else None}
-    return {**named, "long": values[1], "short": values[2] if kind == "LetteredValue" else None, "valued": True}
+    return {**named, "long": values[1], "short": values[2] if kind == "LetteredValue" else None,
+            "valued": True}
 
 
 def of_ending(source, function, ending):
@@ -97,8 +103,10 @@ def of_ending(source, function, ending):
 
 
 def command(source, form):
-    return {"name": form["name"], "about": form["about"], "ending": of_ending(source, "text", form["ending"]),
-            "usage": of_ending(source, "usage", form["ending"]), "arguments": [argument(one) for one in form["arguments"]]}
+    return {"name": form["name"], "about": form["about"],
+            "ending": of_ending(source, "text", form["ending"]),
+            "usage": of_ending(source, "usage", form["ending"]),
+            "arguments": [argument(one) for one in form["arguments"]]}
 
 
 def program():

@@ -1,6 +1,7 @@
 #!/usr/bin/env python3
-"""Writes into the completions of zsh, bash and fish each command and each option, as crates/ps_arguments/src/command_line.rt has
-them. Usage: make_completions.py [FOLDER], by default the folder of this script"""
+"""Writes into the completions of zsh, bash and fish each command and each option, as
+crates/ps_arguments/src/command_line.rt has them. Usage: make_completions.py [FOLDER], by default
+the folder of this script"""
 import pathlib
 import re
 import sys
@@ -16,7 +17,8 @@ def options_of(command):
 
 
 def replaced(text, pattern, made):
-    """The text with what is made in the place of the lines of this pattern, which are there once."""
+    """The text with what is made in the place of the lines of this pattern, which are there
+    once."""
     text, count = re.subn(pattern, lambda _: made, text, flags=re.M)
     assert count == 1, pattern
     return text
@@ -25,7 +27,8 @@ def replaced(text, pattern, made):
 def option_of_zsh(option):
     """The parts of an option for its letter and for its name, of which one alone is given."""
     letter, name, words = option["short"], f"--{option['long']}", option["help"]
-    both, taken = f"(-{letter} {name})" if letter else "", f":{option['id']}:_files" if "valued" in option else ""
+    both, taken = (f"(-{letter} {name})" if letter else "",
+                   f":{option['id']}:_files" if "valued" in option else "")
     if letter:
         yield f"{both}-{letter}{'+' if taken else ''}[{words}]{taken}"
     yield f"{both}{name}{'=' if taken else ''}[{words}]{taken}"
@@ -35,8 +38,12 @@ def for_zsh(text, commands):
     made = "".join(f"        '{command['name']}:{command['about']}'\n" for command in commands)
     text = replaced(text, r"(?<=    commands=\(\n)(?:        '\w+:.*'\n)*(?=        'help:)", made)
     for command in commands:
-        made = "".join(f"                        '{part}' \\\n" for option in options_of(command) for part in option_of_zsh(option))
-        before = rf"                {command['name']}\)\n                    _arguments -S \$help \\\n"
+        made = "".join(
+            f"                        '{part}' \\\n"
+            for option in options_of(command)
+            for part in option_of_zsh(option))
+        before = (rf"                {command['name']}\)\n                    _arguments -S \$help "
+                  r"\\\n")
         text = replaced(text, rf"(?<={before})(?: +'[(-].*' \\\n)*", made)
     return text
 
@@ -44,21 +51,30 @@ def for_zsh(text, commands):
 def for_bash(text, commands):
     for command in commands:
         names = sorted(["--help", *(f"--{option['long']}" for option in options_of(command))])
-        text = replaced(text, rf"(?<=        {command['name']}\) options=').*(?=' ;;)", " ".join(names))
+        text = replaced(
+            text, rf"(?<=        {command['name']}\) options=').*(?=' ;;)", " ".join(names))
     return text
 
 
 def option_of_fish(option):
-    letter, value = f"-s {option['short']} " if option["short"] else "", "-r -F " if "valued" in option else ""
+    letter, value = f"-s {option['short']} " if option[
+        "short"] else "", "-r -F " if "valued" in option else ""
     return f"{letter}-l {option['long']} {value}-d '{option['help']}'"
 
 
 def for_fish(text, commands):
     first, names = "complete -c pslink -n ", " ".join(command["name"] for command in commands)
-    made = "".join(f"{first}\"__pslink_has_words 1\" -a {command['name']} -d '{command['about']}'\n" for command in commands)
+    made = "".join(
+        f"{first}\"__pslink_has_words 1\" -a {command['name']} -d '{command['about']}'\n"
+        for command in commands)
     text = replaced(text, rf'(?:^{first}"__pslink_has_words 1" -a (?!help)\w.*\n)+', made)
-    made = "".join(f'{first}"__pslink_runs {command["name"]}" {option_of_fish(option)}\n' for command in commands for option in options_of(command))
-    return replaced(text, rf'(?<={first}"__pslink_runs {names}" -F\n)(?:{first}"__pslink_runs \w+" .*\n)*', made)
+    made = "".join(
+        f'{first}"__pslink_runs {command["name"]}" {option_of_fish(option)}\n'
+        for command in commands
+        for option in options_of(command))
+    return replaced(
+        text, rf'(?<={first}"__pslink_runs {names}" -F\n)(?:{first}"__pslink_runs \w+" .*\n)*',
+        made)
 
 
 def main():

@@ -1,7 +1,8 @@
-"""What docs/HEADLINE.md says beside the definitions. man/make_headline.py fails on a name here that the page has not, and on a word of
-the kit on the page that is not here."""
+"""What docs/HEADLINE.md says beside the definitions. man/make_headline.py fails on a name here that
+the page has not, and on a word of the kit on the page that is not here."""
 
-# Each phrase of the headline, with the names that say it, in its order. README has the whole sentence.
+# Each phrase of the headline, with the names that say it, in its order. README has the whole
+# sentence.
 PHRASES = [
     ("Where `link` answers Ok", ["OnOk"]),
     ("the bytes written", ["Appends", "AppendsLinkedFile"]),
@@ -37,23 +38,29 @@ SIGNS = {
     "`a ≢ b`": "`a` and `b` are not equal",
     "`Type 0`": "what comes out is a statement, and no value",
     "`λ x. t`": "the function that gives `t` of `x`",
-    "`x ∷ xs`": "the list of `x` and then those of `xs`; `[]` is the empty list, `++` puts two together",
+    "`x ∷ xs`": "the list of `x` and then those of `xs`; `[]` is the empty list, `++` puts two "
+                "together",
     "`p.0`, `p.1`": "the first and the second of a pair",
-    "`a - b`": "the difference of numbers, and 0 if `b` is greater; `/` drops the rest, `%` gives it",
+    "`a - b`": "the difference of numbers, and 0 if `b` is greater; `/` drops the rest, `%` gives "
+               "it",
     "`elim x [ A ↦ t \\| B ↦ u ]`": "`t` if `x` is `A`, and `u` if it is `B`",
     "`record s { a = t }`": "`s` with `t` in its field `a`; `record { .. }` has each field",
     "`reason.X`, `role.X`": "the variant `X` of that type",
     "`{X : Type 0}`": "for any type `X`, which is left out where the definition is used",
-    "`pub`, `abbrev`, `unfoldable`": "who may use a definition, and how the prover opens it; they change no meaning",
-    "`p.old`, `p.new`, `p.now`": "what the parameter `p` refers to before the call, after it, and throughout",
-    "`W.contents w`": "`Some` of the bytes that a known writer `w` has received, and `None` of any other writer",
+    "`pub`, `abbrev`, `unfoldable`": "who may use a definition, and how the prover opens it; they "
+                                     "change no meaning",
+    "`p.old`, `p.new`, `p.now`": "what the parameter `p` refers to before the call, after it, and "
+                                 "throughout",
+    "`W.contents w`": "`Some` of the bytes that a known writer `w` has received, and `None` of any "
+                      "other writer",
 }
 
 # Each word of the kit on the page. Places in a list count from 0.
 WORDS = {
     "All": "`All P xs`: `P` holds of each item",
     "AllByRecursion": "the same as `All`",
-    "Appends": "`Appends old new bs`: if `old` is known, `new` is `old` with `bs` behind it; of an unknown writer it says nothing",
+    "Appends": "`Appends old new bs`: if `old` is known, `new` is `old` with `bs` behind it; of an "
+               "unknown writer it says nothing",
     "Bool": "`true` or `false`",
     "Err": "a `Result` that is an error",
     "IfErr": "`IfErr r P`: if `r` is `Err e`, then `P e`",

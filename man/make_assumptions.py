@@ -1,6 +1,7 @@
 #!/usr/bin/env python3
-"""Writes the tables of docs/PROVED.md of what the proofs assume: which C functions, by docs/verdicts.txt, and how many lines of C and
-JavaScript stand unproved beside what is proved. .ci/assumptions compares docs/verdicts.txt with what rattle says.
+"""Writes the tables of docs/PROVED.md of what the proofs assume: which C functions, by
+docs/verdicts.txt, and how many lines of C and JavaScript stand unproved beside what is proved.
+.ci/assumptions compares docs/verdicts.txt with what rattle says.
 Usage: make_assumptions.py [FOLDER], which is docs/ if none is given."""
 import pathlib
 import re
@@ -60,7 +61,8 @@ def assumed_rows():
     for name, (_, functions) in verdicts().items():
         for row, (home, names) in enumerate(by_home(functions)):
             total = str(len(functions)) if row == 0 else ""
-            yield f"| {name if row == 0 else ''} | {total} | {len(names)} of {home} | {', '.join(names)} |\n"
+            yield (f"| {name if row == 0 else ''} | {total} | {len(names)} of {home} | "
+                   f"{', '.join(names)} |\n")
 
 
 def imported(path, found):

@@ -32,11 +32,13 @@ OF_RUST, OF_PYTHON = ROOT / "docs/RUST.md", ROOT / "docs/PYTHON.md"
 PACKAGE = ROOT / "bindings/rust/Cargo.toml"
 # what a status says, by its number
 STATUSES = [
-    "done", "the files are refused", "the call is not as pslink.h says", None, "out of memory", "out is smaller than the result",
+    "done", "the files are refused", "the call is not as pslink.h says", None, "out of memory",
+    "out is smaller than the result",
     "a name of a file is no UTF-8",
-]  # fmt: skip
+]
 # where there are no names of units
-NONE = "There is none where the {} is linked already, or where its list says that it is something else than a code file."
+NONE = ("There is none where the {} is linked already, or where its list says that it is something "
+        "else than a code file.")
 # each file that has the highest number, and what stands around it
 HIGHEST = {
     REASONS: r"(number, 1 to )\d+()\b",
@@ -44,10 +46,12 @@ HIGHEST = {
 }
 # each file that has the release, what stands around it, and as what it is there
 RELEASES = [
-    (HEADER, r'(#define PSLINK_RELEASE ")[\d.]+(")', release.RELEASE), (HEADER, r"(#define PSLINK_RELEASE_NUMBER )\d+(u)", release.NUMBER),
-    (PYTHON, r'^(__version__ = ")[\d.]+(")', release.RELEASE), (PACKAGE, r'^(version = ")[\d.]+(")', release.RELEASE),
+    (HEADER, r'(#define PSLINK_RELEASE ")[\d.]+(")', release.RELEASE),
+    (HEADER, r"(#define PSLINK_RELEASE_NUMBER )\d+(u)", release.NUMBER),
+    (PYTHON, r'^(__version__ = ")[\d.]+(")', release.RELEASE),
+    (PACKAGE, r'^(version = ")[\d.]+(")', release.RELEASE),
     (RUST, r"^(const LAST_RELEASE_NUMBER: u32 = )\d+(;)", release.LAST_NUMBER),
-]  # fmt: skip
+]
 
 
 def in_order():
@@ -57,7 +61,8 @@ def in_order():
 
 def constants():
     """The faults as C has them, in one column."""
-    words = {name: "PSLINK_FAULT_" + re.sub(r"(?<!^)(?=[A-Z])", "_", name).upper() for name in numbers()}
+    words = {name: "PSLINK_FAULT_" + re.sub(r"(?<!^)(?=[A-Z])", "_", name).upper()
+             for name in numbers()}
     width = max(map(len, words.values()))
     return "".join(f"#define {words[name]:{width}} {number}\n" for name, number in in_order())
 
@@ -71,14 +76,17 @@ def variants():
 
 
 def said(begin, end):
-    """What there is to say of each fault: its name, its meaning and its remedy, between what a row begins and ends with."""
+    """What there is to say of each fault: its name, its meaning and its remedy, between what a row
+    begins and ends with."""
     meanings, remedies = sentences("MEANINGS"), sentences("REMEDIES")
     rows = [(name, meanings[name], remedies[name]) for name, _ in in_order()]
-    return [begin + f",\n{' ' * len(begin)}".join(f'"{text}"' for text in row) + end for row in rows]
+    return [begin + f",\n{' ' * len(begin)}".join(f'"{text}"' for text in row) + end
+            for row in rows]
 
 
 class Kind(NamedTuple):
-    """A text of pslink_text: its name, its number, what is said of it, the command that prints it, and what the source makes of it."""
+    """A text of pslink_text: its name, its number, what is said of it, the command that prints it,
+    and what the source makes of it."""
 
     name: str
     number: str
@@ -101,7 +109,8 @@ class Kind(NamedTuple):
 
     @property
     def names(self):
-        """Which names a call for names of units gives, and all else that is said of them, in sentences."""
+        """Which names a call for names of units gives, and all else that is said of them, in
+        sentences."""
         words = self.words.replace("the first file", "the file") if self.is_of_host else self.words
         first, _, more = f"The names of {words}.".partition(". ")
         file = "file" if self.is_of_host else "host"
@@ -115,13 +124,15 @@ def kinds(function):
     body = re.search(rf"(?s)fn {function}\(.*?\n\}}", source)[0]
     made = dict(re.findall(r"^ +TEXT_(\w+) => Some\((.*)\),$", body, re.M))
     found = []
-    for comment, name, number in re.findall(r"((?:^///.*\n)+)^pub const TEXT_(\w+): u32 = (\d+);", source, re.M):
+    for comment, name, number in re.findall(r"((?:^///.*\n)+)^pub const TEXT_(\w+): u32 = (\d+);",
+                                            source, re.M):
         if name in made:
             said = re.sub(r"(?m)^///(?: |$)", "", comment)
             words, _, command = said.partition("\n\n")
             words = " ".join(words.split()).removesuffix(".")
             printed = re.fullmatch(r"The command `(.*)` prints it\.\n", command)
-            found.append(Kind(name, number, words[0].lower() + words[1:], printed[1] if printed else "", made[name]))
+            found.append(Kind(name, number, words[0].lower() + words[1:],
+                              printed[1] if printed else "", made[name]))
     return found
 
 
@@ -129,19 +140,22 @@ TEXTS, NAMES = kinds("kind_in"), kinds("text_kind")
 
 
 def defined(kinds):
-    """Texts as C has them, in one column, each with what is said of it in lines of at most 102 characters."""
+    """Texts as C has them, in one column, each with what is said of it in lines of at most 102
+    characters."""
     lines = [f"#define {kind.constant} {kind.number}u" for kind in kinds]
     width = max(map(len, lines))
     for line, kind in zip(lines, kinds):
         # (what is between marks stays whole)
         words = re.sub(r"`[^`]*`", lambda quoted: quoted[0].replace(" ", "\0"), kind.words)
-        said = textwrap.wrap(words + "\0*/", 102 - width - 4, break_long_words=False, break_on_hyphens=False)
+        said = textwrap.wrap(words + "\0*/", 102 - width - 4, break_long_words=False,
+                             break_on_hyphens=False)
         yield f"{line:{width}} /* " + f"\n{' ' * (width + 4)}".join(said).replace("\0", " ") + "\n"
 
 
 def table():
     """What pslink_text knows of the texts, as C has it."""
-    yield f"/* made by man/make_constants.py from {KINDS_FROM}: of each text by its number, whether it has a document, and whether files\n"
+    yield (f"/* made by man/make_constants.py from {KINDS_FROM}: of each text by its number, "
+           "whether it has a document, and whether files\n")
     yield " * have names in it */\n#include <pslink.h>\n\n"
     yield "static const struct {\n    unsigned char is_there, has_document, has_names;\n} kinds[] = {\n"
     for kind in TEXTS + NAMES:
@@ -154,8 +168,10 @@ def texts():
     """What the library says of faults and of statuses, as C has it."""
     rows = said("    {", "},\n")
     of_statuses = [f'    "{text}",\n' if text else "    NULL,\n" for text in STATUSES]
-    yield "/* made by man/make_constants.py: what the library says of each fault, its name, its meaning and its remedy; and of each status */\n"
-    yield "#include <stddef.h>\n\nstatic const char *const faults[][3] = {\n    {NULL, NULL, NULL},\n"
+    yield ("/* made by man/make_constants.py: what the library says of each fault, its name, its "
+           "meaning and its remedy; and of each status */\n")
+    yield ("#include <stddef.h>\n\nstatic const char *const faults[][3] = {\n    {NULL, NULL, "
+           "NULL},\n")
     yield from rows
     yield "};\n\nstatic const char *const statuses[] = {\n"
     yield from of_statuses
@@ -169,9 +185,11 @@ def page():
 
 
 def between(text, source, lines):
-    """The text of a file with these lines between the comment that names this script, with what it makes them from, and the next one."""
+    """The text of a file with these lines between the comment that names this script, with what it
+    makes them from, and the next one."""
     pattern = rf"(make_constants\.py from {re.escape(source)}(?: \*/)?\n).*?(^ *(?:/\*|//|#) end)"
-    text, count = re.subn(pattern, lambda match: match[1] + "".join(lines) + match[2], text, flags=re.M | re.S)
+    text, count = re.subn(pattern, lambda match: match[1] + "".join(lines) + match[2], text,
+                          flags=re.M | re.S)
     if count != 1:
         raise ValueError(f"{count} places are made from {source}")
     return text
@@ -211,11 +229,15 @@ def script():
 
 
 def calls_in_python():
-    """The calls for names of units as Python has them, each with what is said of it in lines of at most 100 characters."""
+    """The calls for names of units as Python has them, each with what is said of it in lines of at
+    most 100 characters."""
     for kind in NAMES:
         first, more = kind.names
-        given, files = ("file: File", "file") if kind.is_of_host else ("host: File, libs: Iterable[File] = ()", "host, libs")
-        said = [*textwrap.wrap(f'"""{first}, as \'UTIL\'.', 96, break_on_hyphens=False), "", *textwrap.wrap(f"{more} Raises what `show` raises.", 96, break_on_hyphens=False), '"""']
+        given, files = (("file: File", "file") if kind.is_of_host
+                        else ("host: File, libs: Iterable[File] = ()", "host, libs"))
+        said = [*textwrap.wrap(f'"""{first}, as \'UTIL\'.', 96, break_on_hyphens=False), "",
+                *textwrap.wrap(f"{more} Raises what `show` raises.", 96, break_on_hyphens=False),
+                '"""']
         yield f"def units_{kind.word}({given}) -> List[str]:\n"
         yield from (f"    {line}".rstrip() + "\n" for line in said)
         yield f'    return _Files({files}).units(_NAMES["{kind.word}"])\n\n\n'
@@ -232,10 +254,12 @@ def package():
 
 
 def page_of_script():
-    """The page on the module in JavaScript, with the words of the texts; of names of units also the first sentence of what is said of them."""
+    """The page on the module in JavaScript, with the words of the texts; of names of units also the
+    first sentence of what is said of them."""
     *most, last = (f'`"{kind.word}"`' for kind in TEXTS)
     of_names = ". ".join(f'`"{kind.word}"`: {kind.words.partition(". ")[0]}' for kind in NAMES)
-    places = (r"(as the program prints it: kind is ).*( \|)$", f"{', '.join(most)} or {last}"), (r"(\| `names` of units\. ).*( \|)$", of_names)
+    places = ((r"(as the program prints it: kind is ).*( \|)$", f"{', '.join(most)} or {last}"),
+              (r"(\| `names` of units\. ).*( \|)$", of_names))
     return replaced(OF_SCRIPT.read_text(), *places)
 
 
@@ -260,7 +284,8 @@ def calls_in_rust():
     for kind in NAMES:
         first, more = kind.names
         of_file = "file: impl Into<File<'a>>"
-        of_files = "\n    host: impl Into<File<'a>>,\n    libs: impl IntoIterator<Item = File<'a>>,\n"
+        of_files = ("\n    host: impl Into<File<'a>>,\n    libs: impl IntoIterator<Item = "
+                    "File<'a>>,\n")
         given, files = (of_file, "file, []") if kind.is_of_host else (of_files, "host, libs")
         yield from ("\n", *commented("", f"{first}.", more, "# Errors"), "/// Those of [`show`].\n")
         yield f"pub fn units_{kind.word}<'a>({given}) -> Result<Vec<Name>, Error> {{\n"
@@ -275,7 +300,8 @@ def crate():
 
 def page_of_binding(page, prefix):
     """The page on a binding, with the calls for names of units."""
-    calls = ", ".join(f"`{prefix}units_{kind.word}({'file' if kind.is_of_host else 'host, libs'})`" for kind in NAMES)
+    calls = ", ".join(f"`{prefix}units_{kind.word}({'file' if kind.is_of_host else 'host, libs'})`"
+                      for kind in NAMES)
     return replaced(page.read_text(), (rf"^(\| )`{re.escape(prefix)}units_.*?( \| )", calls))
 
 

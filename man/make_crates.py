@@ -1,7 +1,7 @@
 #!/usr/bin/env python3
-"""Writes docs/CRATES.md from the sources: the groups of crates.txt with their crates, what each crate is and on which it stands, its
-files of definitions with what each says first, and its public functions, each with what its docstring says first and the names of
-the clauses of its contract.
+"""Writes docs/CRATES.md from the sources: the groups of crates.txt with their crates, what each
+crate is and on which it stands, its files of definitions with what each says first, and its public
+functions, each with what its docstring says first and the names of the clauses of its contract.
 Usage: make_crates.py [FOLDER], which is docs/ if none is given."""
 import pathlib
 import re
@@ -11,22 +11,29 @@ ROOT = pathlib.Path(__file__).resolve().parent.parent
 CRATES, PAGE = ROOT / "crates.txt", "CRATES.md"
 HEAD = """# The crates: what each defines and promises
 
-Made by `man/make_crates.py` from `crates.txt` and the sources: change these, then run it. [ARCHITECTURE.md](ARCHITECTURE.md) says how
-data goes through the crates, and [PROVED.md](PROVED.md) what all of it proves of the program and of the library.
+Made by `man/make_crates.py` from `crates.txt` and the sources: change these, then run it. \
+[ARCHITECTURE.md](ARCHITECTURE.md) says how
+data goes through the crates, and [PROVED.md](PROVED.md) what all of it proves of the program \
+and of the library.
 
 - **Definitions**: each file of `crates/CRATE/specs`, with what it says first.
-- **Functions**: each public function whose contract has clauses with names, with what its docstring says first. Clause and whole
+- **Functions**: each public function whose contract has clauses with names, with what its \
+docstring says first. Clause and whole
   docstring stand in its source. A law is a function with an empty body: its clauses are theorems.
-- **One clause**: functions with one clause and no name for it, which mostly says what the result is equal to.
-- **No clause**: functions of which nothing is proved but that they are safe and end. Tests show what they do.
+- **One clause**: functions with one clause and no name for it, which mostly says what the result \
+is equal to.
+- **No clause**: functions of which nothing is proved but that they are safe and end. Tests show \
+what they do.
 """
 
 
 def standing(text):
-    """Each crate of a text in the form of crates.txt, with the crates of this repository that it stands on and those of the kit."""
+    """Each crate of a text in the form of crates.txt, with the crates of this repository that it
+    stands on and those of the kit."""
     ours = {path.name for path in (ROOT / "crates").iterdir()}
     for crate, below in re.findall(r"^(\w+)(?: staticlib)?:(.*)", text, re.M):
-        yield crate, [name for name in below.split() if name in ours], [name for name in below.split() if name not in ours]
+        yield crate, [name for name in below.split() if name in ours], [
+            name for name in below.split() if name not in ours]
 
 
 def groups():
@@ -49,7 +56,9 @@ def needed(below):
 
 def first_sentence(lines, mark):
     """What a comment says first, as one line."""
-    text = re.sub(r"\[(`[^`]*`)\](?!\()", r"\1", " ".join(line.strip().removeprefix(mark).strip() for line in lines))
+    text = re.sub(
+        r"\[(`[^`]*`)\](?!\()", r"\1",
+        " ".join(line.strip().removeprefix(mark).strip() for line in lines))
     return re.split(r"(?<=\.)\s+(?=[A-Z`])", text, maxsplit=1)[0].rstrip(".:").replace("|", r"\|")
 
 
@@ -68,19 +77,21 @@ def definitions(crate):
     specs = ROOT / "crates" / crate / "specs"
     for path in sorted(specs.rglob("*.antt")):
         if path.name != "Lib.antt":
-            yield f"- `{'.'.join(path.relative_to(specs).with_suffix('').parts)}`: {first_sentence(head_of(path, '--'), '--')}\n"
+            yield (f"- `{'.'.join(path.relative_to(specs).with_suffix('').parts)}`: "
+                   f"{first_sentence(head_of(path, '--'), '--')}\n")
 
 
 def exported(crate):
     """The names that a crate passes on from its modules, and its public modules."""
     text = (ROOT / "crates" / crate / "src/lib.rt").read_text()
-    names = {name for one in re.findall(r"^pub use ([^;]*);", text, re.M) for name in re.findall(r"\w+", one)}
+    names = {name for one in re.findall(r"^pub use ([^;]*);", text, re.M) for name in re.findall(
+                 r"\w+", one)}
     return names, set(re.findall(r"^pub mod (\w+);", text, re.M))
 
 
 def functions(path):
-    """Of each public function of a file: the type or trait that it is of, its name, its docstring, and the names of its clauses, '' for
-    one without a name."""
+    """Of each public function of a file: the type or trait that it is of, its name, its docstring,
+    and the names of its clauses, '' for one without a name."""
     kind, in_trait, comment, found = "", False, [], []
     clauses = []
     for line in path.read_text().splitlines():
@@ -103,7 +114,8 @@ def functions(path):
 
 
 def promises(crate):
-    """The rows of a crate's functions whose clauses have names, the names of its other functions with a clause, and of those without."""
+    """The rows of a crate's functions whose clauses have names, the names of its other functions
+    with a clause, and of those without."""
     source, rows, others, without = ROOT / "crates" / crate / "src", [], [], []
     names, modules = exported(crate) if (source / "lib.rt").exists() else (set(), set())
     for path in sorted(source.rglob("*.rt")):
@@ -125,7 +137,11 @@ def summary(crates):
     yield "| Crate | Stands on | Of the kit | What it is |\n|---|---|---|---|\n"
     for crate, below, of_kit in crates:
         source = ROOT / "crates" / crate / "src"
-        words = first_sentence(head_of(next(path for path in (source / "lib.rt", source / "main.rt") if path.exists()), "//!"), "//!")
+        words = first_sentence(
+            head_of(
+                next(path for path in (source / "lib.rt", source / "main.rt") if path.exists()),
+                "//!"),
+            "//!")
         listed = [", ".join(f"`{name}`" for name in names) for names in (needed(below), of_kit)]
         yield f"| `{crate}` | {listed[0]} | {listed[1]} | {words} |\n"
 

@@ -1,6 +1,7 @@
 #!/usr/bin/env python3
-"""Writes the table 'What a file is' of docs/OUTPUT.md from the phrases and the remedies of crates/ps_filetype, so that they have one
-home. Usage: make_file_types.py [FOLDER], which is docs/ if none is given."""
+"""Writes the table 'What a file is' of docs/OUTPUT.md from the phrases and the remedies of
+crates/ps_filetype, so that they have one home. Usage: make_file_types.py [FOLDER], which is docs/
+if none is given."""
 import pathlib
 import re
 import sys
@@ -15,7 +16,8 @@ STEPS = re.compile(r'((?:\|?\s*FileType::\w+(?:\s*\{[^}]*\})?\s*)+)=>\s*Some\(St
 
 
 def texts(file, enum):
-    """The texts of the arms over this enum in a file of the source, in order: of each its patterns and the text."""
+    """The texts of the arms over this enum in a file of the source, in order: of each its patterns
+    and the text."""
     for patterns, text in ARM.findall((SOURCE / file).read_text()):
         found = re.findall(rf"\b{enum}::(\w+)(\([^)]*\)|\s*\{{[^}}]*\}})?", patterns)
         yield from ((name, detail.strip(), text) for name, detail in found)
@@ -23,12 +25,14 @@ def texts(file, enum):
 
 def shown(text):
     """A text with the names of its parts in capitals."""
-    return re.sub(r"\{(\w+)(:[^}]*)?\}", lambda part: part[1].upper(), text.replace('\\"', '"').replace("|", "\\|"))
+    return re.sub(r"\{(\w+)(:[^}]*)?\}", lambda part: part[1].upper(),
+                  text.replace('\\"', '"').replace("|", "\\|"))
 
 
 def variants():
     """The variants of FileType but for that of code files, in order."""
-    body = (SOURCE / "file_type.rt").read_text().split("pub enum FileType {", 1)[1].split("\n}\n", 1)[0]
+    body = (SOURCE / "file_type.rt").read_text().split("pub enum FileType {", 1)[1].split(
+        "\n}\n", 1)[0]
     return [name for name in re.findall(r"^    (\w+)", body, re.M) if name != "Code"]
 
 
@@ -36,15 +40,20 @@ def phrases(variant):
     """What is said of files of a variant."""
     if variant == "Disk":
         return [f"{text}, of the volume NAME" for _, _, text in texts("images.rt", "Image")]
-    # a variant with a part has its text in Display, and one without has it in phrase: the last of the two
-    found = {detail if "Release" in detail else "": text for name, detail, text in texts("file_type.rt", "FileType") if name == variant}
+    # a variant with a part has its text in Display, and one without has it in phrase: the last of
+    # the two
+    found = {detail if "Release" in detail else "": text
+             for name, detail, text in texts("file_type.rt", "FileType")
+             if name == variant}
     if variant == "Converted":
-        return [found[""].format(line_ends=text) for _, _, text in texts("line_ends.rt", "LineEnds")]
+        return [found[""].format(line_ends=text)
+                for _, _, text in texts("line_ends.rt", "LineEnds")]
     return list(found.values())
 
 
 def commands():
-    """The commands of remedies: for each variant, the number of its detail and the image, if it has them, the sentences around it."""
+    """The commands of remedies: for each variant, the number of its detail and the image, if it has
+    them, the sentences around it."""
     found = {}
     for patterns, *parts in STEPS.findall((SOURCE / "remedy.rt").read_text()):
         before, between, after, end = parts
@@ -63,7 +72,10 @@ def rows():
     by_command, by_phrase = commands(), images()
     sentences = {name: text for name, _, text in texts("remedy.rt", "FileType")}
     for variant in variants():
-        details = sorted((detail for name, detail, image in by_command if name == variant and not image), reverse=True) or [""]
+        details = (sorted((detail
+                           for name, detail, image in by_command
+                           if name == variant and not image), reverse=True)
+                   or [""])
         for phrase in phrases(variant):
             # a header of so many bytes has a remedy of its own
             for bytes in details:
@@ -74,7 +86,8 @@ def rows():
 def main():
     folder = pathlib.Path(sys.argv[1]) if len(sys.argv) > 1 else ROOT / "docs"
     before, rest = PAGE.read_text().split(HEAD, 1)
-    (folder / PAGE.name).write_text(before + HEAD + "".join(rows()) + re.sub(r"\A(?:\|.*\n)+", "", rest))
+    (folder / PAGE.name).write_text(before + HEAD + "".join(rows())
+                                    + re.sub(r"\A(?:\|.*\n)+", "", rest))
 
 
 if __name__ == "__main__":

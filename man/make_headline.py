@@ -1,7 +1,8 @@
 #!/usr/bin/env python3
-"""Writes docs/HEADLINE.md: the contract of `ps_linkfile::link`, and each definition of specs/ that it rests on, after those that it
-uses. The last chapter has those that only one clause uses which follows from the others by a law. Fails on a word of a file of specs/
-that stands nowhere, and on what man/headline_words.py lacks or has too much.
+"""Writes docs/HEADLINE.md: the contract of `ps_linkfile::link`, and each definition of specs/ that
+it rests on, after those that it uses. The last chapter has those that only one clause uses which
+follows from the others by a law. Fails on a word of a file of specs/ that stands nowhere, and on
+what man/headline_words.py lacks or has too much.
 Usage: make_headline.py [FOLDER], which is docs/ if none is given."""
 import functools
 import pathlib
@@ -21,39 +22,47 @@ WORD = re.compile(r"[\s(){}\[\],;]+")
 NUMBERED = re.compile(r"-- \d+\. |--   ")
 # The law that says which number each constant has.
 NUMBERS = CRATES / "ps_laws/src/numbers.rt"
-# Where the types and constants of the code have their names from, and which modules are none of this repository's.
+# Where the types and constants of the code have their names from, and which modules are none of
+# this repository's.
 DECLARED, KIT = ".specs.declared.", re.compile(r"Rattle\.(?!ps_)")
 
-# Of each chapter its title, what a reader learns there, and the files whose definitions it has, unless one of them uses a later chapter.
+# Of each chapter its title, what a reader learns there, and the files whose definitions it has,
+# unless one of them uses a later chapter.
 CHAPTERS = [
     (
         "Words",
-        "Two bytes are a word in the byte order of a file, and an operand of two bytes has its high byte first.",
+        "Two bytes are a word in the byte order of a file, and an operand of two bytes has its "
+        "high byte first.",
         ["ps_words/specs/Words"],
     ),
     (
         "The segment dictionary",
-        "Block 0 of a file says what its sixteen slots have, where their codes are, and in which byte order it is written.",
+        "Block 0 of a file says what its sixteen slots have, where their codes are, and in which "
+        "byte order it is written.",
         ["ps_codefile/specs/Dictionary", "ps_codefile/specs/Roles"],
     ),
     (
         "Code and procedures",
-        "The end of a code says where its procedures are, and which of its places are no operand's.",
+        "The end of a code says where its procedures are, and which of its places are no "
+        "operand's.",
         ["ps_codefile/specs/Procedures"],
     ),
     (
         "Records",
-        "Behind a code stands its link information: records with names, and the offsets of the operands that refer to them.",
+        "Behind a code stands its link information: records with names, and the offsets of the "
+        "operands that refer to them.",
         ["ps_linkinfo/"],
     ),
     (
         "Segments",
-        "A segment of a link comes from the host, from a library that has the unit which a slot wants, or from one that has a requested unit.",
+        "A segment of a link comes from the host, from a library that has the unit which a slot "
+        "wants, or from one that has a requested unit.",
         ["ps_reading/specs/"],
     ),
     (
         "What a reference becomes",
-        "A name stands for a value, a private variable has words of its own, and the byte of a linked code is told place by place.",
+        "A name stands for a value, a private variable has words of its own, and the byte of a "
+        "linked code is told place by place.",
         [
             "ps_resolve/specs/Symbols",
             "ps_resolve/specs/Privates",
@@ -66,12 +75,14 @@ CHAPTERS = [
     ),
     (
         "Faults and their order",
-        "Each step of a link has its faults, each fault has a key, and the first fault is that of the smallest key.",
+        "Each step of a link has its faults, each fault has a key, and the first fault is that of "
+        "the smallest key.",
         ["ps_reading/specs/Standing", "ps_resolve/specs/", "ps_words/specs/Fault"],
     ),
     (
         "The linked file",
-        "The linked file is a list of facts, and no two files have them all: that is the law `linked_file_is_one`.",
+        "The linked file is a list of facts, and no two files have them all: that is the law "
+        "`linked_file_is_one`.",
         ["ps_linkfile/", "ps_writing/"],
     ),
 ]
@@ -144,7 +155,8 @@ class Book:
     """The definitions that stand under some words of the contract."""
 
     def __init__(self):
-        # the files by their paths, and the names of the kit and of the code that are used, in the order in which they are met
+        # the files by their paths, and the names of the kit and of the code that are used, in the
+        # order in which they are met
         self.specs, self.others = {}, {}
 
     def spec(self, module):
@@ -164,7 +176,8 @@ class Book:
         return None
 
     def find(self, module, name):
-        """The definition of this name, wherever the module has it from; none of a name of the kit, and of a type of the code."""
+        """The definition of this name, wherever the module has it from; none of a name of the kit,
+        and of a type of the code."""
         if KIT.match(module) or DECLARED in module:
             self.others.setdefault((module, name))
             return None
@@ -271,14 +284,16 @@ def glossary(others):
         raise ValueError(
             f"man/headline_words.py and the page differ in {sorted(used ^ set(WORDS))}"
         )
-    yield "## Words of the kit\n\nA definition without a comment on these uses them so. The first table has signs of the language.\n\n| Sign | What it says |\n|---|---|\n"
+    yield ("## Words of the kit\n\nA definition without a comment on these uses them so. The first "
+           "table has signs of the language.\n\n| Sign | What it says |\n|---|---|\n")
     yield "".join(f"| {sign} | {meaning} |\n" for sign, meaning in SIGNS.items())
     yield "\n| Word | What it is |\n|---|---|\n"
     yield "".join(f"| `{word}` | {WORDS[word]} |\n" for word in sorted(WORDS, key=str.lower))
 
 
 def source_of(module):
-    """The file of the code that a name is declared in, and the name of the type, where it is of one."""
+    """The file of the code that a name is declared in, and the name of the type, where it is of
+    one."""
     crate, path = module.removeprefix("Rattle.").split(DECLARED)
     words = path.removesuffix(".TheVariants").split(".")
     kept = words if words[-1] == "TheConstants" or not words[-1][0].isupper() else words[:-1]
@@ -289,7 +304,8 @@ def source_of(module):
 
 
 def declared_types(others):
-    """The types of the code that definitions name, and those of the same files that their fields have, each as its file declares it."""
+    """The types of the code that definitions name, and those of the same files that their fields
+    have, each as its file declares it."""
     wanted = sorted(
         {
             source_of(module)
@@ -312,10 +328,13 @@ def declared_types(others):
         left = {
             other for other in types for name in left if re.search(rf"\b{other}\b", types[name])
         } - needed
-    yield "## Types of the code\n\nThe types that definitions name, as the code declares them. In a definition a number of any type is one of ℕ, and a name or a list of references is a list. "
-    yield "`rec` is the number of a record, and a `Name` is eight bytes.\n\n```text\n" + "\n\n".join(
-        types[it] for it in types if it in needed
-    ) + "\n```\n"
+    yield ("## Types of the code\n\nThe types that definitions name, as the code declares them. In "
+           "a definition a number of any type is one of ℕ, and a name or a list of references is a "
+           "list. ")
+    yield ("`rec` is the number of a record, and a `Name` is eight bytes.\n\n```text\n"
+           + "\n\n".join(
+               types[it] for it in types if it in needed
+           ) + "\n```\n")
 
 
 def constants(others):
@@ -326,7 +345,8 @@ def constants(others):
     )
     if missing := used - stated.keys():
         raise ValueError(f"{NUMBERS.name} says of no number that it is {sorted(missing)}")
-    yield "## Constants\n\nThe law `numbers_of_the_format` of `ps_laws` says which number each is.\n\n| Constant | Number |\n|---|---|\n"
+    yield ("## Constants\n\nThe law `numbers_of_the_format` of `ps_laws` says which number each "
+           "is.\n\n| Constant | Number |\n|---|---|\n")
     yield "".join(f"| `{name}` | {stated[name]} |\n" for name in sorted(used))
 
 
@@ -364,7 +384,8 @@ def in_chapters(book, order):
 
 
 def in_rows(book, definitions):
-    """The same definitions, each still after those that it uses, with as many of one file in a row as can be."""
+    """The same definitions, each still after those that it uses, with as many of one file in a row
+    as can be."""
     left, rows, file = set(definitions), [], None
     place_of = lambda definition: (definition.file != file, definition.file, definition.place)
     while left:
@@ -409,13 +430,20 @@ def page():
     rest = [it for it in every if it not in needed]
     size = lambda definitions: f"{sum(it.count() for it in definitions):,}"
     yield "# The headline, word for word\n\n"
-    yield "For a reader who wants to know what was proved, and not how. This page has the contract of `ps_linkfile::link` and each definition under it. "
+    yield ("For a reader who wants to know what was proved, and not how. This page has the "
+           "contract of `ps_linkfile::link` and each definition under it. ")
     yield "`man/make_headline.py` makes it from the files, and the gate compares it.\n\n"
-    yield f"**{len(needed)} definitions, {size(needed)} lines**, in {len({it.file for it in needed})} files, say what a link is. "
-    yield f"The clause `{FOLLOWS}` alone uses {len(rest)} more, of {size(rest)} lines: the same first fault, as it is computed. "
-    yield f"It follows from the clause `first`, by the law `first_of_all` of `ps_laws`, so the [last chapter](#{LAST.lower().replace(',', '').replace(' ', '-')}) can be left out.\n\n"
-    yield "Each definition stands after those that it uses. A definition with an arrow (`→`) has arguments, `×` is *and*, `⊎` is *or*, and `≡` is *equal*. "
-    yield "Other words are in [Words of the kit](#words-of-the-kit), [Types of the code](#types-of-the-code) and [Constants](#constants), before the chapters.\n\n"
+    yield (f"**{len(needed)} definitions, {size(needed)} lines**, in "
+           f"{len({it.file for it in needed})} files, say what a link is. ")
+    yield (f"The clause `{FOLLOWS}` alone uses {len(rest)} more, of {size(rest)} lines: the same "
+           "first fault, as it is computed. ")
+    yield ("It follows from the clause `first`, by the law `first_of_all` of `ps_laws`, so the "
+           f"[last chapter](#{LAST.lower().replace(',', '').replace(' ', '-')}) can be left "
+           "out.\n\n")
+    yield ("Each definition stands after those that it uses. A definition with an arrow (`→`) has "
+           "arguments, `×` is *and*, `⊎` is *or*, and `≡` is *equal*. ")
+    yield ("Other words are in [Words of the kit](#words-of-the-kit), [Types of the "
+           "code](#types-of-the-code) and [Constants](#constants), before the chapters.\n\n")
     yield "".join(headline(needed))
     yield f"\n## The contract\n\n```text\n{stated}```\n\n"
     others = {
@@ -427,9 +455,11 @@ def page():
     ) + "\n"
     yield "## Said twice\n\n" + "".join(twins(needed)) + "\n"
     for (title, about, _), definitions in zip(CHAPTERS, in_chapters(book, needed)):
-        yield f"## {title}\n\n{about} *{len(definitions)} definitions, {size(definitions)} lines.*\n\n"
+        yield (f"## {title}\n\n{about} *{len(definitions)} definitions, {size(definitions)} "
+               "lines.*\n\n")
         yield from blocks(definitions)
-    yield f"## {LAST}\n\nThe steps of a link, one after another, each with its first fault. *{len(rest)} definitions, {size(rest)} lines.*\n\n"
+    yield (f"## {LAST}\n\nThe steps of a link, one after another, each with its first fault. "
+           f"*{len(rest)} definitions, {size(rest)} lines.*\n\n")
     yield from blocks(in_rows(book, rest))
 
 

@@ -1,7 +1,8 @@
 #!/usr/bin/env python3
-"""Writes man/pslink.5 from docs/FORMAT.md, and the parts of man/pslink.1 and man/pslink.3 that lie between a line '.\\" made from ..'
-and a line '.\\" end' from docs/OUTPUT.md, docs/LINKING.md, docs/USING.md, the sentences of check, and the texts of the library, so that
-each fact has one home; and into the head of each page the release of CHANGES.md and its day.
+"""Writes man/pslink.5 from docs/FORMAT.md, and the parts of man/pslink.1 and man/pslink.3 that lie
+between a line '.\\" made from ..' and a line '.\\" end' from docs/OUTPUT.md, docs/LINKING.md,
+docs/USING.md, the sentences of check, and the texts of the library, so that each fact has one home;
+and into the head of each page the release of CHANGES.md and its day.
 Usage: make_pages.py [FOLDER], which is man/ if none is given."""
 import pathlib
 import re
@@ -91,9 +92,11 @@ def listed(rows):
 
 
 def page(lines):
-    """The lines of a manual page for the lines of a document; its examples are left out, with the words before them."""
+    """The lines of a manual page for the lines of a document; its examples are left out, with the
+    words before them."""
     first = True
-    lines = re.sub(r"(?m)^[^|\-#\n].*:\n\n(?=```)|^```\n(?:.*\n)*?```$", "", "\n".join(lines)).splitlines()
+    lines = re.sub(
+        r"(?m)^[^|\-#\n].*:\n\n(?=```)|^```\n(?:.*\n)*?```$", "", "\n".join(lines)).splitlines()
     while lines:
         line = lines.pop(0)
         if not line:
@@ -149,7 +152,8 @@ LINKING, USING, OUTPUT = Document("LINKING.md"), Document("USING.md"), Document(
 
 
 def texts():
-    """What each command prints: the page but for its first paragraph, with its sections as parts of one."""
+    """What each command prints: the page but for its first paragraph, with its sections as parts of
+    one."""
     lines = OUTPUT.text.split("\n\n", 2)[2].splitlines()
     return page("#" + line if line.startswith("#") else line for line in lines)
 
@@ -187,20 +191,23 @@ def damage():
 
 
 def warnings():
-    """What the line of each finding says, with the word that it begins with, what it means and what to do: the warnings, then the
-    others."""
-    for word, text, meaning in sorted(make_fault_table.findings(), key=lambda finding: finding[0] != "warning"):
+    """What the line of each finding says, with the word that it begins with, what it means and what
+    to do: the warnings, then the others."""
+    for word, text, meaning in sorted(
+            make_fault_table.findings(), key=lambda finding: finding[0] != "warning"):
         yield ".TP"
         yield inline(f"{text} ({word})")
         yield from lines_of(meaning)
 
 
 def constants(kinds):
-    """What pslink_text makes, by its constants: what is said of each, and the command that prints it."""
+    """What pslink_text makes, by its constants: what is said of each, and the command that prints
+    it."""
     for kind in kinds:
         yield ".TP"
         yield f".B {kind.constant}"
-        yield from lines_of(f"{kind.words}; the command `{kind.command}`" if kind.command else kind.words)
+        yield from lines_of(
+            f"{kind.words}; the command `{kind.command}`" if kind.command else kind.words)
 
 
 PARTS = {
@@ -222,12 +229,16 @@ def with_parts(manual):
     def part(match):
         return match[1] + "".join(line + "\n" for line in PARTS[match[2]]()) + match[3]
 
-    return re.sub(r'(^\.\\" made from [\w/.]+: ([a-z ]+)\n).*?(^\.\\" end\n)', part, manual, flags=re.M | re.S)
+    return re.sub(
+        r'(^\.\\" made from [\w/.]+: ([a-z ]+)\n).*?(^\.\\" end\n)', part, manual,
+        flags=re.M | re.S)
 
 
 def dated(manual):
     """The manual page with the release and its day in its head."""
-    return re.sub(r'^(\.TH PSLINK \d) "[^"]*" "pslink[^"]*"', rf'\1 "{release.DAY}" "pslink {release.RELEASE}"', manual, flags=re.M)
+    return re.sub(
+        r'^(\.TH PSLINK \d) "[^"]*" "pslink[^"]*"',
+        rf'\1 "{release.DAY}" "pslink {release.RELEASE}"', manual, flags=re.M)
 
 
 def main():
@@ -235,7 +246,8 @@ def main():
     pages = {
         "pslink.1": with_parts((HERE / "pslink.1").read_text()),
         "pslink.3": with_parts((HERE / "pslink.3").read_text()),
-        "pslink.5": HEAD + "\n".join(page(release.without_line((DOCS / "FORMAT.md").read_text()).splitlines()[1:])) + "\n" + FOOT,
+        "pslink.5": HEAD + "\n".join(page(release.without_line(
+            (DOCS / "FORMAT.md").read_text()).splitlines()[1:])) + "\n" + FOOT,
     }
     for name, manual in pages.items():
         (folder / name).write_text(dated(manual))

@@ -1,6 +1,7 @@
 #!/usr/bin/env python3
-"""Writes into each page which release it is of: a line below its title, or where the page has that line. While CHANGES.md lists
-changes that are not released, the line says that the page has them too.
+"""Writes into each page which release it is of: a line below its title, or where the page has that
+line. While CHANGES.md lists changes that are not released, the line says that the page has them
+too.
 Usage: make_release_lines.py [FOLDER], which is the repository if none is given."""
 import os
 import pathlib
@@ -26,7 +27,8 @@ def line(page):
     if not release.AHEAD:
         return f"*Of release {release.RELEASE}.*"
     changes = pathlib.PurePath(os.path.relpath(release.CHANGES, page.parent)).as_posix()
-    return f"*Of release {release.RELEASE} and of the sources after it: [CHANGES]({changes}) says what they change.*"
+    return (f"*Of release {release.RELEASE} and of the sources after it: [CHANGES]({changes}) says "
+            "what they change.*")
 
 
 def with_line(page):

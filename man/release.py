@@ -1,10 +1,12 @@
-"""The newest release and its day, as CHANGES.md has them: all other places are written from there, or compared with it."""
+"""The newest release and its day, as CHANGES.md has them: all other places are written from there,
+or compared with it."""
 import datetime
 import pathlib
 import re
 
 CHANGES = pathlib.Path(__file__).resolve().parent.parent / "CHANGES.md"
-RELEASE, _DAY = re.search(r"^## (\d+\.\d+\.\d+)\n\n(\d+ \w+ \d+)\.$", CHANGES.read_text(), re.M).groups()
+RELEASE, _DAY = re.search(
+    r"^## (\d+\.\d+\.\d+)\n\n(\d+ \w+ \d+)\.$", CHANGES.read_text(), re.M).groups()
 # whether the sources have changes that no release has
 AHEAD = "\n**In the sources, not released yet:**\n" in CHANGES.read_text()
 DAY = datetime.datetime.strptime(_DAY, "%d %B %Y").date().isoformat()

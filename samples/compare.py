@@ -1,21 +1,26 @@
 #!/usr/bin/env python3
-"""Says whether LINKED, which another linker made of HOST and LIB.., is a right link of them; if not, the first difference.
-Usage: compare.py [--pslink PROGRAM] [--all] HOST LINKED [LIB]..; the status is 0 if it is right, 1 if it is wrong, 2 if that
-cannot be said, since pslink refuses the files or one cannot be read.
+"""Says whether LINKED, which another linker made of HOST and LIB.., is a right link of them; if
+not, the first difference. Usage: compare.py [--pslink PROGRAM] [--all] HOST LINKED [LIB]..; the
+status is 0 if it is right, 1 if it is wrong, 2 if that cannot be said, since pslink refuses the
+files or one cannot be read.
 
-There is no linker in this script. `pslink map --references --json HOST LIB..` prints which segments are linked, where in their
-codes a link stores something, and the values of public variables. All else is looked up in LINKED.
+There is no linker in this script. `pslink map --references --json HOST LIB..` prints which segments
+are linked, where in their codes a link stores something, and the values of public variables. All
+else is looked up in LINKED.
 
 These may differ from the file that pslink writes, and each that does is printed:
-- the order of the codes in the file, gaps between them and what fills these, and the length of the file;
-- text addresses, bytes 256 to 511 of the dictionary, and names and addresses of empty slots;
+- the order of the codes in the file, gaps between them and what fills these, and the length of the
+file; - text addresses, bytes 256 to 511 of the dictionary, and names and addresses of empty slots;
 - the slot of a unit that the host does not name;
-- the base offsets of private variables, and how far the data size of the program's outer block grows: each variable has one base
-  offset for all its references, and words of its own, between the program's own data and the end of the data size.
+- the base offsets of private variables, and how far the data size of the program's outer block
+grows: each variable has one base
+  offset for all its references, and words of its own, between the program's own data and the end of
+  the data size.
 
-All else must be as pslink does it. Of that some are choices of pslink: a private variable belongs to one segment; definitions of
-units have no effect; an operand gets the sum of its displacement and a value, in two bytes with bit 7 set; the offsets of
-references begin at the segment's first byte; the kind of each slot is 0. A linker that chose otherwise is said to be wrong.
+All else must be as pslink does it. Of that some are choices of pslink: a private variable belongs
+to one segment; definitions of units have no effect; an operand gets the sum of its displacement and
+a value, in two bytes with bit 7 set; the offsets of references begin at the segment's first byte;
+the kind of each slot is 0. A linker that chose otherwise is said to be wrong.
 
 What cannot be seen: a wrong displacement in the only reference of a private variable reads as another base offset."""
 import argparse
@@ -65,8 +70,9 @@ class CodeFile:
 
 
 class Segment:
-    """A segment of the link: its slots in the link of pslink and in LINKED, its name, its code before and after, and what a
-    link stores in it. Of an added unit that is not found in LINKED, `there` is None."""
+    """A segment of the link: its slots in the link of pslink and in LINKED, its name, its code
+    before and after, and what a link stores in it. Of an added unit that is not found in LINKED,
+    `there` is None."""
 
     def __init__(self, described, stored, files, linked, there):
         self.slot, self.there = described["slot"], there
@@ -83,7 +89,8 @@ class Segment:
 
 
 class Link:
-    """A link as pslink prints it in `document`, the bytes of its files, and the bytes that another linker made of them."""
+    """A link as pslink prints it in `document`, the bytes of its files, and the bytes that another
+    linker made of them."""
 
     def __init__(self, document, files, linked):
         order = "little" if any(files[0][KINDS:TEXTS:2]) else "big"
@@ -94,39 +101,47 @@ class Link:
         for each in document["segments"]:
             found = self.slots_of(each, taken)
             stored = [line for line in document["references"] if line["slot"] == each["slot"]]
-            self.segments.append(Segment(each, stored, read, self.linked, found[0] if len(found) == 1 else None))
+            self.segments.append(Segment(each, stored, read, self.linked,
+                                         found[0] if len(found) == 1 else None))
         self.there = {segment.slot: segment.there for segment in self.segments}
         self.offsets = {}
         for variable, offset in self.base_offsets():
             self.offsets.setdefault(variable, offset)
 
     def slots_of(self, described, taken):
-        """The slots that a segment may have in LINKED: that of the host, or those that have the name of an added unit."""
+        """The slots that a segment may have in LINKED: that of the host, or those that have the
+        name of an added unit."""
         if not described["added"]:
             return [described["slot"]]
         name = bytes.fromhex(described["name_hex"])
-        return [slot for slot, entry in enumerate(self.linked.entries) if slot not in taken and entry.length and entry.name == name]
+        return [slot
+                for slot, entry in enumerate(self.linked.entries)
+                if slot not in taken and entry.length and entry.name == name]
 
     def base_offsets(self):
-        """For each reference to a private variable its segment's slot and its name, and the base offset that LINKED uses there. Of
-        each variable `offsets` has that of the first reference."""
+        """For each reference to a private variable its segment's slot and its name, and the base
+        offset that LINKED uses there. Of each variable `offsets` has that of the first
+        reference."""
         for segment in filter(Segment.can_be_compared, self.segments):
             for line in segment.stored:
                 if kind_of(line) == "PRIVREF":
                     yield (segment.slot, line["record"]["name_hex"]), value_used(segment, line)
 
     def data_sizes(self):
-        """The data size of the program's outer block before the link and in LINKED, or None if the code cannot be compared."""
+        """The data size of the program's outer block before the link and in LINKED, or None if the
+        code cannot be compared."""
         for segment in filter(Segment.can_be_compared, self.segments):
             for line in segment.stored:
                 if line["stores"] == "data size":
                     at = line["at"]
-                    return tuple(int.from_bytes(code[at : at + 2], self.linked.order) for code in (segment.before, segment.after))
+                    return tuple(int.from_bytes(code[at : at + 2], self.linked.order)
+                                 for code in (segment.before, segment.after))
         return None
 
 
 def kind_of(line):
-    """The kind of the record of a place where a link stores something, or None if no record is the reason."""
+    """The kind of the record of a place where a link stores something, or None if no record is the
+    reason."""
     return line["record"] and line["record"]["kind"]
 
 
@@ -140,11 +155,13 @@ def value_used(segment, line):
     return displacement(segment.after, line["at"]) - displacement(segment.before, line["at"])
 
 
-# What is wrong --------------------------------------------------------------------------------------------------------
+# What is wrong
+# --------------------------------------------------------------------------------------------------------
 
 
 def differences(link):
-    """What is wrong in LINKED, in words: first of its dictionary, then of its codes, then of its private variables."""
+    """What is wrong in LINKED, in words: first of its dictionary, then of its codes, then of its
+    private variables."""
     if len(link.linked.content) < BLOCK:
         yield f"it has {len(link.linked.content)} bytes, and a segment dictionary has {BLOCK}"
         return
@@ -162,7 +179,9 @@ def differences(link):
 def differences_of_added_units(link):
     for segment in link.segments:
         if segment.there is None:
-            slots = [slot for slot, entry in enumerate(link.linked.entries) if entry.length and entry.name == segment.name]
+            slots = [slot
+                     for slot, entry in enumerate(link.linked.entries)
+                     if entry.length and entry.name == segment.name]
             where = "slots " + " and ".join(f"{slot:02}" for slot in slots) if slots else "no slot"
             yield f"{segment.title}, a unit that the host does not name, is in {where}"
 
@@ -171,14 +190,17 @@ def differences_of_entry(link, slot, entry, segment):
     """Of the entry of a slot, in which LINKED has this segment or none."""
     if segment is None:
         if entry.length:
-            yield f"slot {slot:02} has a code of {entry.length} bytes, and no segment is linked there"
+            yield (f"slot {slot:02} has a code of {entry.length} bytes, and no segment is linked "
+                   "there")
     else:
         if entry.name != segment.name:
             yield f"slot {slot:02} has the name {shown(entry.name)}, and not {shown(segment.name)}"
         if entry.length != len(segment.before):
-            yield f"slot {slot:02} {segment.title} has the length {entry.length}, and not {len(segment.before)}"
+            yield (f"slot {slot:02} {segment.title} has the length {entry.length}, and not "
+                   f"{len(segment.before)}")
         elif entry.start == 0 or entry.end > len(link.linked.content):
-            yield f"slot {slot:02} {segment.title} has the address {entry.start // BLOCK}, where its code is not in the file"
+            yield (f"slot {slot:02} {segment.title} has the address {entry.start // BLOCK}, where "
+                   "its code is not in the file")
     if entry.kind:
         yield f"slot {slot:02} has the kind {entry.kind}, and not 0"
 
@@ -190,7 +212,8 @@ def shown(name):
 def used(link):
     """The entries of the codes and their slots, by their places in the file."""
     slots = [segment.there for segment in link.segments if segment.there is not None]
-    return sorted(((link.linked.entries[slot], slot) for slot in slots), key=lambda code: (code[0].start, code[1]))
+    return sorted(((link.linked.entries[slot], slot) for slot in slots),
+                  key=lambda code: (code[0].start, code[1]))
 
 
 def overlaps(link):
@@ -201,22 +224,28 @@ def overlaps(link):
 
 
 def differences_of_code(link, segment):
-    """The bytes of a code that are neither those of its file nor what a link stores there, by their places."""
+    """The bytes of a code that are neither those of its file nor what a link stores there, by their
+    places."""
     found, stored = [], set()
     for line in segment.stored:
         stored.update(range(line["at"], line["at"] + len(line["was"]) // 2))
         found += [(line["at"], text) for text in differences_of_stored(link, segment, line)]
-    others = [at for at, byte in enumerate(segment.before) if byte != segment.after[at] and at not in stored]
+    others = [at
+              for at, byte in enumerate(segment.before)
+              if byte != segment.after[at] and at not in stored]
     if others:
         first = others[0]
         more = f"; other bytes that differ: {len(others) - 1}" if others[1:] else ""
-        found.append((first, f"the byte is {segment.after[first]:02X}, and not {segment.before[first]:02X}{more}"))
+        found.append((first,
+                      f"the byte is {segment.after[first]:02X}, and not "
+                      f"{segment.before[first]:02X}{more}"))
     for at, text in sorted(found):
         yield f"{segment.at(at)}: {text}"
 
 
 def differences_of_stored(link, segment, line):
-    """Of a place where a link stores something. Of the data size and of base offsets more is said with the private variables."""
+    """Of a place where a link stores something. Of the data size and of base offsets more is said
+    with the private variables."""
     at, byte, kind = line["at"], segment.after[line["at"]], kind_of(line)
     if line["stores"] == "number" and byte != segment.there:
         yield f"the segment number is {byte}, and not {segment.there}"
@@ -230,11 +259,14 @@ def differences_of_stored(link, segment, line):
     elif byte < 128:
         yield f"the operand that refers to {title} has no bit 7, so it is not of two bytes"
     elif kind == "PUBLREF":
-        used_value, value = value_used(segment, line), displacement(bytes.fromhex(line["is"]), 0) - displacement(segment.before, at)
+        used_value, value = (
+            value_used(segment, line),
+            displacement(bytes.fromhex(line["is"]), 0) - displacement(segment.before, at))
         if used_value != value:
             yield f"{title} is used with the value {used_value}, and not {value}"
     else:
-        offset, first = value_used(segment, line), link.offsets[segment.slot, line["record"]["name_hex"]]
+        offset, first = value_used(segment, line), link.offsets[segment.slot,
+                                                                line["record"]["name_hex"]]
         if offset != first:
             yield f"{title} is used with the base offset {offset}, and elsewhere with {first}"
 
@@ -242,8 +274,10 @@ def differences_of_stored(link, segment, line):
 def differences_of_privates(link, size_before, size):
     """Of the places of the private variables, and of the data size that has to hold them."""
     words = {(each["slot"], each["name_hex"]): each["words"] for each in link.document["privates"]}
-    title = {(each["slot"], each["name_hex"]): f"{each['name'].strip()} of slot {link.there[each['slot']]:02}"
-             for each in link.document["privates"] if link.there[each["slot"]] is not None}
+    title = {(each["slot"],
+              each["name_hex"]): f"{each['name'].strip()} of slot {link.there[each['slot']]:02}"
+             for each in link.document["privates"]
+             if link.there[each["slot"]] is not None}
     total, grown = sum(words.values()), size - size_before
     first = link.document["next"] - total
     end = first + grown // 2
@@ -252,27 +286,34 @@ def differences_of_privates(link, size_before, size):
         return
     for key, start in link.offsets.items():
         if start < first:
-            yield f"{title[key]} has the base offset {start}, where the program's own data is, which ends at {first}"
+            yield (f"{title[key]} has the base offset {start}, where the program's own data is, "
+                   f"which ends at {first}")
         elif start + words[key] > end:
-            yield f"{title[key]} has {words[key]} words from the base offset {start} on, and the data size ends at {end}"
-    places = sorted((start, start + words[key], key) for key, start in link.offsets.items() if words[key])
+            yield (f"{title[key]} has {words[key]} words from the base offset {start} on, and the "
+                   f"data size ends at {end}")
+    places = sorted((start, start + words[key], key)
+                    for key, start in link.offsets.items()
+                    if words[key])
     for (_, last, one), (start, _, other) in zip(places, places[1:]):
         if start < last:
             yield f"{title[one]} and {title[other]} share the word of base offset {start}"
     unused = max((size for key, size in words.items() if key not in link.offsets), default=0)
-    starts, ends = [start for start, _, _ in places] + [end], [first] + [last for _, last, _ in places]
+    starts, ends = ([start for start, _, _ in places] + [end],
+                    [first] + [last for _, last, _ in places])
     if unused > max(start - last for start, last in zip(starts, ends)):
         yield f"no {unused} words are left together for a private variable that has no reference"
 
 
-# What may be otherwise ------------------------------------------------------------------------------------------------
+# What may be otherwise
+# ------------------------------------------------------------------------------------------------
 
 
 def choices(link):
     """What a right LINKED has otherwise than the file that pslink writes, in words."""
     for segment in link.segments:
         if segment.there != segment.slot:
-            yield f"{segment.title}, which the host does not name, is in slot {segment.there:02}, and not {segment.slot:02}"
+            yield (f"{segment.title}, which the host does not name, is in slot {segment.there:02}, "
+                   f"and not {segment.slot:02}")
     slots = [slot for _, slot in used(link)]
     if slots != sorted(slots):
         yield "the codes are in the order of the slots " + " ".join(f"{slot:02}" for slot in slots)
@@ -284,12 +325,14 @@ def choices(link):
 
 
 def choices_of_entries(link):
-    taken, entries = {segment.there for segment in link.segments}, list(enumerate(link.linked.entries))
+    taken, entries = {segment.there for segment in link.segments}, list(
+        enumerate(link.linked.entries))
     empty = [(slot, entry) for slot, entry in entries if slot not in taken]
     for what, slots in [
         ("there are text addresses in the slots", [slot for slot, entry in entries if entry.text]),
         ("there are addresses in the empty slots", [slot for slot, entry in empty if entry.start]),
-        ("the names are not those of the host in the empty slots", [slot for slot, entry in empty if entry.name != link.host.entries[slot].name]),
+        ("the names are not those of the host in the empty slots",
+         [slot for slot, entry in empty if entry.name != link.host.entries[slot].name]),
     ]:
         if slots:
             yield what + "".join(f" {slot:02}" for slot in slots)
@@ -307,7 +350,8 @@ def choices_of_filling(link):
 
 
 def choices_of_privates(link):
-    offsets = {(each["slot"], each["name_hex"]): each["offset"] for each in link.document["privates"]}
+    offsets = {(each["slot"], each["name_hex"]): each["offset"]
+               for each in link.document["privates"]}
     moved = sum(link.offsets[key] != offsets[key] for key in link.offsets)
     if moved:
         yield f"private variables with another base offset: {moved}"
@@ -330,7 +374,8 @@ def printed(program, host, libraries):
     except OSError as error:
         raise Unsaid(f"cannot run {program}: {error.strerror}")
     if done.returncode:
-        lines = done.stderr.decode(errors="replace").splitlines() or [f"{program} ends with status {done.returncode}"]
+        lines = (done.stderr.decode(errors="replace").splitlines()
+                 or [f"{program} ends with status {done.returncode}"])
         raise Unsaid(lines[0])
     return json.loads(done.stdout.decode())
 
@@ -356,9 +401,13 @@ def compared(given):
 
 
 def main():
-    parser = argparse.ArgumentParser(description=__doc__.splitlines()[0], epilog="The first lines of this script say what LINKED may choose.")
-    parser.add_argument("--pslink", metavar="PROGRAM", default="pslink", help="where pslink is, if it is not on the path")
-    parser.add_argument("--all", action="store_true", help="print each difference, and not the first alone")
+    parser = argparse.ArgumentParser(description=__doc__.splitlines()[0],
+                                     epilog="The first lines of this script say what LINKED may "
+                                            "choose.")
+    parser.add_argument("--pslink", metavar="PROGRAM", default="pslink",
+                        help="where pslink is, if it is not on the path")
+    parser.add_argument("--all", action="store_true",
+                        help="print each difference, and not the first alone")
     parser.add_argument("host", metavar="HOST", help="the unlinked program")
     parser.add_argument("linked", metavar="LINKED", help="the file that another linker made")
     parser.add_argument("lib", metavar="LIB", nargs="*", help="the libraries, in their order")

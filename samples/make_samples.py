@@ -1,12 +1,14 @@
 #!/usr/bin/env python3
-"""Writes the sample files from the descriptions at the end of this file. docs/FORMAT.md says what each part means.
-Usage: make_samples.py [FOLDER]. Without FOLDER it writes to the folder of this script and, where that is the folder of
-the repository, updates the files of ELSEWHERE too.
+"""Writes the sample files from the descriptions at the end of this file. docs/FORMAT.md says what
+each part means.
+Usage: make_samples.py [FOLDER]. Without FOLDER it writes to the folder of this script and, where
+that is the folder of the repository, updates the files of ELSEWHERE too.
 
-For files of your own copy this script and change the descriptions. An instruction is a text: its name and its operands, as
-'LDCI 1000' or 'CXP 7 1'. An operand that the Linker fills in has a name and may have a displacement: 'LAO COUNT', 'SRO STATE+2',
-'CXP AUX 1'. Its reference and its record are made of that: a name in place of a segment is a UNITREF, one of the segment's own
-variables a PRIVREF, and any other a PUBLREF. A mistake in a description is a sentence."""
+For files of your own copy this script and change the descriptions. An instruction is a text: its
+name and its operands, as 'LDCI 1000' or 'CXP 7 1'. An operand that the Linker fills in has a name
+and may have a displacement: 'LAO COUNT', 'SRO STATE+2', 'CXP AUX 1'. Its reference and its record
+are made of that: a name in place of a segment is a UNITREF, one of the segment's own variables a
+PRIVREF, and any other a PUBLREF. A mistake in a description is a sentence."""
 import dataclasses
 import pathlib
 import re
@@ -28,16 +30,19 @@ def number_in(text, least, most, what):
     return int(text)
 
 
-# P-code. A linker reads only the operands to which a reference points ------------------------------------------------
-# The names of instructions, what they do, and the lex levels below do not come from the sources of this project:
-# docs/FORMAT.md and docs/PCODE.md mark them (unsourced).
+# P-code. A linker reads only the operands to which a reference points -----------------------------
+# The names of instructions, what they do, and the lex levels below do not come from the sources of
+# this project: docs/FORMAT.md and docs/PCODE.md mark them (unsourced).
 
 # By form of the operands the instructions, each with its opcode
 TABLE = {
-    "": "ABI 80 ABR 81 ADI 82 ADR 83 LAND 84 DIF 85 DVI 86 DVR 87 CHK 88 FLO 89 FLT 8A INN 8B INT 8C LOR 8D MODI 8E MPI 8F MPR 90 NGI 91 "
-        "NGR 92 LNOT 93 SRS 94 SBI 95 SBR 96 SGS 97 SQI 98 SQR 99 STO 9A IXS 9B UNI 9C LDCN 9F LDP BA STP BB LDB BE STB BF EQUI C3 GEQI C4 "
-        "GRTI C5 LEQI C8 LESI C9 NEQI CB XIT D6 NOP D7",
-    "byte": "CSP 9E ADJ A0 FJP A1 SAS AA RNP AD CIP AE UJP B9 LDM BC STM BD RBP C1 CBP C2 CLP CE CGP CF EFJ D3 NFJ D4",
+    "": "ABI 80 ABR 81 ADI 82 ADR 83 LAND 84 DIF 85 DVI 86 DVR 87 CHK 88 FLO 89 FLT 8A INN 8B INT "
+    "8C LOR 8D MODI 8E MPI 8F MPR 90 NGI 91 "
+    "NGR 92 LNOT 93 SRS 94 SBI 95 SBR 96 SGS 97 SQI 98 SQR 99 STO 9A IXS 9B UNI 9C LDCN 9F LDP BA "
+    "STP BB LDB BE STB BF EQUI C3 GEQI C4 "
+    "GRTI C5 LEQI C8 LESI C9 NEQI CB XIT D6 NOP D7",
+    "byte": "CSP 9E ADJ A0 FJP A1 SAS AA RNP AD CIP AE UJP B9 LDM BC STM BD RBP C1 CBP C2 CLP CE "
+    "CGP CF EFJ D3 NFJ D4",
     "byte byte": "IXP C0",
     "word": "LDCI C7",
     "big": "INC A2 IND A3 IXA A4 LAO A5 MOV A8 LDO A9 SRO AB LLA C6 LDL CA STL CC BPT D5",
@@ -51,18 +56,23 @@ TABLE = {
 }
 # What earlier releases have under six of the opcodes: for these, INSTRUCTIONS.update(rows(EARLIER))
 EARLIER = {"": "S2P 9D S1P D0 IXB D1 BYT D2", "big": "LDO A7 MVB A9"}
-# Instructions with the operand in the opcode: the first opcode, and the least and the largest operand
+# Instructions with the operand in the opcode: the first opcode, and the least and the largest
+# operand
 SHORT = {"SLDC": (0x00, 0, 127), "SLDL": (0xD8, 1, 16), "SLDO": (0xE8, 1, 16), "SIND": (0xF8, 0, 7)}
-FORMS = {"word": "one word", "case": "two indices, a distance, and a word for each index", "type": "a type, and of arrays a length", "byte": "one byte",
-         "byte byte": "two bytes", "big": "one number or name", "byte big": "a byte, and a number or a name", "segment byte": "a segment and a procedure",
+FORMS = {"word": "one word", "case": "two indices, a distance, and a word for each index",
+         "type": "a type, and of arrays a length", "byte": "one byte", "byte byte": "two bytes",
+         "big": "one number or name", "byte big": "a byte, and a number or a name",
+         "segment byte": "a segment and a procedure",
          "segment big": "a segment, and a number or a name"}
-TYPES = {"REAL": 2, "STRING": 4, "BOOLEAN": 6, "SET": 8, "BYTES": 10, "WORDS": 12}  # of the two last a length follows
+# of the two last a length follows
+TYPES = {"REAL": 2, "STRING": 4, "BOOLEAN": 6, "SET": 8, "BYTES": 10, "WORDS": 12}
 
 
 def rows(table):
     """By name the form of the operands and the opcode."""
     words = {form: text.split() for form, text in table.items()}
-    return {name: (form, int(code, 16)) for form, text in words.items() for name, code in zip(text[::2], text[1::2])}
+    return {name: (form, int(code, 16)) for form, text in words.items() for name, code in zip(
+                text[::2], text[1::2])}
 
 
 INSTRUCTIONS = rows(TABLE)
@@ -70,7 +80,8 @@ INSTRUCTIONS = rows(TABLE)
 
 @dataclasses.dataclass
 class Code:
-    """Bytes of a segment so far, and what the Linker has to fill in: the type of the record, its name, and the place."""
+    """Bytes of a segment so far, and what the Linker has to fill in: the type of the record, its
+    name, and the place."""
 
     word: object
     privates: dict
@@ -93,9 +104,12 @@ class Code:
             number = number_in(text, 0, 32767, "an operand")
         else:
             name, is_long = name or text, True
-            number = number_in(displacement, 0, 32767, f"the displacement of {name}") if "+" in text else 0
-            self.fixes.append((PRIVREF if name in self.privates else PUBLREF, name, len(self.bytes)))
-        self.bytes += bytes([128 + number // 256, number % 256]) if is_long or number > 127 else bytes([number])
+            number = number_in(
+                displacement, 0, 32767, f"the displacement of {name}") if "+" in text else 0
+            self.fixes.append(
+                (PRIVREF if name in self.privates else PUBLREF, name, len(self.bytes)))
+        self.bytes += bytes(
+            [128 + number // 256, number % 256]) if is_long or number > 127 else bytes([number])
 
     def words(self, *texts):
         """Words at an even place."""
@@ -119,14 +133,16 @@ def operands_of(code, form, operands, text):
         code.bytes += bytes([INSTRUCTIONS["UJP"][1], number_in(operands[2], 0, 255, "a distance")])
         code.words(*operands[3:])
     elif form == "type" and operands:
-        kind = TYPES.get(operands[0]) or number_in(operands[0], 0, 255, f"a type is one of {', '.join(TYPES)}, or it")
+        kind = TYPES.get(operands[0]) or number_in(
+            operands[0], 0, 255, f"a type is one of {', '.join(TYPES)}, or it")
         code.bytes.append(kind)
         if len(operands) != 1 + (kind in (10, 12)):
             raise Mistake("arrays have a length after their type, and other types have none")
         for length in operands[1:]:
             code.big(length)
     elif form == "word" and len(operands) == 1:
-        code.bytes += number_in(operands[0], -32768, 65535, "a word").to_bytes(3, "little", signed=True)[:2]
+        code.bytes += number_in(operands[0], -32768, 65535, "a word").to_bytes(
+            3, "little", signed=True)[:2]
     elif form == "big" and operands[:1] == ["BIG"] and len(operands) == 2:
         code.big(operands[1], True)
     elif form in ("case", "type", "word") or len(operands) != len(form.split()):
@@ -137,8 +153,8 @@ def operands_of(code, form, operands, text):
 
 
 def add_instruction(code, text):
-    """Adds 'LAO COUNT+2', 'LAO BIG 2' for a number in two bytes, 'CXP 7 1', "LCA 'TEXT'", 'XJP 1 2 DISTANCE WORD WORD', or any
-    bytes: 'BYTES A5 80 02'."""
+    """Adds 'LAO COUNT+2', 'LAO BIG 2' for a number in two bytes, 'CXP 7 1', "LCA 'TEXT'", 'XJP 1 2
+    DISTANCE WORD WORD', or any bytes: 'BYTES A5 80 02'."""
     name, *operands = text.split() or [""]
     if name == "BYTES":
         if not re.fullmatch(r"(?:[0-9A-Fa-f]{2})+", "".join(operands)):
@@ -147,10 +163,12 @@ def add_instruction(code, text):
         return
     if name in SHORT and len(operands) == 1:
         first, least, most = SHORT[name]
-        code.bytes.append(first + number_in(operands[0], least, most, f"the operand of {name}") - least)
+        code.bytes.append(
+            first + number_in(operands[0], least, most, f"the operand of {name}") - least)
         return
     if name not in INSTRUCTIONS:
-        raise Mistake("there is no such instruction" if name not in SHORT else "its operand is one number")
+        raise Mistake(
+            "there is no such instruction" if name not in SHORT else "its operand is one number")
     form, opcode = INSTRUCTIONS[name]
     code.bytes.append(opcode)
     operands_of(code, form, operands, text)
@@ -185,11 +203,14 @@ def add_procedure(code, procedure):
 
 
 def segment_code(number, segment, word):
-    """The procedures in order, then the procedure dictionary, the segment number and the number of procedures."""
+    """The procedures in order, then the procedure dictionary, the segment number and the number of
+    procedures."""
     code, tables = Code(word, segment.privates), {}
     for procedure in segment.procedures:
         if procedure.number in tables or not 1 <= procedure.number <= 255:
-            raise Mistake(f"the numbers of procedures are from 1 to 255 and each another, and {procedure.number} is not")
+            raise Mistake(
+                "the numbers of procedures are from 1 to 255 and each another, and "
+                f"{procedure.number} is not")
         tables[procedure.number] = add_procedure(code, procedure)
     if segment.kind == HOSTSEG and 1 not in tables:
         raise Mistake("a program has a procedure 1, its outer block")
@@ -199,11 +220,12 @@ def segment_code(number, segment, word):
         code.words(str(len(code.bytes) - tables[n] if n in tables else 0))
     code.bytes += bytes([number, max(tables, default=0)])
     if len(code.bytes) > LARGEST_CODE:
-        raise Mistake(f"the code has {len(code.bytes)} bytes, and at most {LARGEST_CODE} are possible")
+        raise Mistake(
+            f"the code has {len(code.bytes)} bytes, and at most {LARGEST_CODE} are possible")
     return code
 
 
-# Link information ----------------------------------------------------------------------------------------------------
+# Link information ---------------------------------------------------------------------------------
 
 
 def record(name, kind, *words):
@@ -245,13 +267,15 @@ def padded_name(name):
 
 
 def records_of(segment, fixes):
-    """The definitions of a segment, a record for each name that its code has and for each variable of its own, and its end mark."""
+    """The definitions of a segment, a record for each name that its code has and for each variable
+    of its own, and its end mark."""
     found = {}
     for type, name, place in fixes:
         found.setdefault((type, name), []).append(place)
     for name in segment.privates:
         found.setdefault((PRIVREF, name), [])
-    makers = {UNITREF: unit_ref, PUBLREF: publ_ref, PRIVREF: lambda name, places: priv_ref(name, segment.privates[name], places)}
+    makers = {UNITREF: unit_ref, PUBLREF: publ_ref,
+              PRIVREF: lambda name, places: priv_ref(name, segment.privates[name], places)}
     made = [makers[type](name, places) for (type, name), places in found.items()]
     links = segment.links if segment.links is not None or segment.kind != UNITSEG else [eof_mark(0)]
     if not made:
@@ -266,14 +290,15 @@ def record_bytes(one, word):
     return padded_name(name) + b"".join(map(word, words)) + whole(b"".join(map(word, places)), 16)
 
 
-# Code files ----------------------------------------------------------------------------------------------------------
+# Code files ---------------------------------------------------------------------------------------
 
 
 @dataclasses.dataclass
 class Segment:
-    """A name, a kind, the procedures and the link information: definitions and the end mark, to which the records of the names in
-    the code are added. A unit without definitions needs none. `privates` has the words of each variable of its own, by name. The
-    number in the code is that of the slot."""
+    """A name, a kind, the procedures and the link information: definitions and the end mark, to
+    which the records of the names in the code are added. A unit without definitions needs none.
+    `privates` has the words of each variable of its own, by name. The number in the code is that of
+    the slot."""
 
     name: str
     kind: int
@@ -288,7 +313,8 @@ def whole(part, size):
 
 
 def code_file(slots, order="little", tail=None):
-    """The file with these segments, by slot; `tail` has bytes of the dictionary's second half, by offset."""
+    """The file with these segments, by slot; `tail` has bytes of the dictionary's second half, by
+    offset."""
 
     def word(value):
         if not 0 <= value <= 65535:
@@ -297,7 +323,8 @@ def code_file(slots, order="little", tail=None):
 
     for slot in slots:
         if slot not in range(SLOTS):
-            raise Mistake(f"make_samples.py: a file has the slots 0 to {SLOTS - 1}, and no slot {slot}")
+            raise Mistake(
+                f"make_samples.py: a file has the slots 0 to {SLOTS - 1}, and no slot {slot}")
     pairs, names, kinds, blocks = [], [], [], b""
     for slot in range(SLOTS):
         segment = slots.get(slot, Segment("", LINKED))
@@ -324,14 +351,15 @@ def segment_in_file(slot, segment, block, word):
     return (block, len(code.bytes)), whole(bytes(code.bytes), BLOCK) + whole(records, BLOCK)
 
 
-# The samples ---------------------------------------------------------------------------------------------------------
+# The samples --------------------------------------------------------------------------------------
 
 # A program of five words of data, after two of parameters: base offsets 3 to 7, so 8 is free next.
 PROGRAM = [Procedure(1, ["NOP", "NOP", "RBP 0"], parameters=4, data=10)]
 PROGRAM_LINKS = [publ_def("COUNT", 3), eof_mark(8)]
 DEMO = Segment("DEMO", HOSTSEG, PROGRAM, PROGRAM_LINKS)
 
-# A unit's procedure: COUNT of the program at byte 1, and the third word of STATE, its own, at byte 4.
+# A unit's procedure: COUNT of the program at byte 1, and the third word of STATE, its own, at byte
+# 4.
 UNIT_OF_NAMES = [Procedure(1, ["LAO COUNT", "SRO STATE+2", "NOP", "NOP", "RNP 0"])]
 STATE = {"STATE": 4}
 
@@ -347,7 +375,8 @@ PROCEDURES = [
 ]
 
 # A unit that refers to nine words from COUNT on: a list of nine references takes two pieces.
-NINE = [Procedure(1, ["LAO COUNT", *(f"LAO COUNT+{displacement}" for displacement in range(1, 9)), "RNP 0"])]
+NINE = [Procedure(
+    1, ["LAO COUNT", *(f"LAO COUNT+{displacement}" for displacement in range(1, 9)), "RNP 0"])]
 
 SAMPLES = {
     # a host that wants UTIL, and a library that has it
@@ -360,36 +389,36 @@ SAMPLES = {
     "using.code": code_file({2: Segment("UTIL", UNITSEG, [Procedure(1, ["CXP AUX 1", "RNP 0"])])}),
     "used.code": code_file({3: Segment("AUX", UNITSEG, UNIT_OF_NAMES, privates=STATE)}),
     # a host with two units in it, of which AUX calls procedure 1 of UTIL. Each has its own STATE
-    "two_units.code": code_file(
-        {
-            1: DEMO,
-            7: Segment("UTIL", UNITSEG, [Procedure(1, ["LAO COUNT", "SRO STATE", "RNP 0"])], privates=STATE),
-            8: Segment("AUX", UNITSEG, [Procedure(1, ["CXP UTIL 1", "LAO STATE+1", "RNP 0"])], privates={"STATE": 2}),
-        }
-    ),
+    "two_units.code": code_file({
+        1: DEMO,
+        7: Segment(
+            "UTIL", UNITSEG, [Procedure(1, ["LAO COUNT", "SRO STATE", "RNP 0"])], privates=STATE),
+        8: Segment(
+            "AUX", UNITSEG, [Procedure(1, ["CXP UTIL 1", "LAO STATE+1", "RNP 0"])],
+            privates={"STATE": 2}),
+    }),
     # a host with a constant, and with a unit of nine references
-    "nine.code": code_file(
-        {
-            1: Segment("DEMO", HOSTSEG, PROGRAM, [publ_def("COUNT", 3), const_def("LIMIT", 100), eof_mark(12)]),
-            7: Segment("UTIL", UNITSEG, NINE),
-        }
-    ),
+    "nine.code": code_file({
+        1: Segment(
+            "DEMO", HOSTSEG, PROGRAM,
+            [publ_def("COUNT", 3), const_def("LIMIT", 100), eof_mark(12)]),
+        7: Segment("UTIL", UNITSEG, NINE),
+    }),
     # a host with several procedures, and a segment that is linked already
-    "procedures.code": code_file(
-        {
-            1: Segment("DEMO", HOSTSEG, PROCEDURES, PROGRAM_LINKS),
-            7: Segment("UTIL", UNITSEG, WANTED),
-            9: Segment("TOOLS", LINKED, [Procedure(1, ["NOP", "RNP 0"], lex_level=1)]),
-        }
-    ),
+    "procedures.code": code_file({
+        1: Segment("DEMO", HOSTSEG, PROCEDURES, PROGRAM_LINKS),
+        7: Segment("UTIL", UNITSEG, WANTED),
+        9: Segment("TOOLS", LINKED, [Procedure(1, ["NOP", "RNP 0"], lex_level=1)]),
+    }),
 }
 
-# A volume ------------------------------------------------------------------------------------------------------------
+# A volume -----------------------------------------------------------------------------------------
 DIRECTORY, AFTER_DIRECTORY, CODE = 2, 6, 2
 
 
 def volume(name, blocks, files):
-    """The image of a little-endian volume with these code files, by name, one after another. docs/VOLUMES.md has the directory."""
+    """The image of a little-endian volume with these code files, by name, one after another.
+    docs/VOLUMES.md has the directory."""
 
     def words(*values):
         return b"".join(value.to_bytes(2, "little") for value in values)
@@ -397,24 +426,26 @@ def volume(name, blocks, files):
     def named(text):
         return bytes([len(text)]) + text.encode()
 
-    directory = (words(0, AFTER_DIRECTORY, 0) + named(name).ljust(8, b"\0") + words(blocks, len(files))).ljust(26, b"\0")
+    directory = (words(0, AFTER_DIRECTORY, 0) + named(name).ljust(8, b"\0")
+                 + words(blocks, len(files))).ljust(26, b"\0")
     contents = b""
     for title, file in files.items():
         first, last = AFTER_DIRECTORY + len(contents) // BLOCK, len(file) % BLOCK or BLOCK
         contents += whole(file, BLOCK)
-        directory += words(first, AFTER_DIRECTORY + len(contents) // BLOCK, CODE) + named(title).ljust(16, b"\0") + words(last, 0)
-    return (bytes(DIRECTORY * BLOCK) + directory.ljust((AFTER_DIRECTORY - DIRECTORY) * BLOCK, b"\0") + contents).ljust(blocks * BLOCK, b"\0")
+        directory += words(first, AFTER_DIRECTORY + len(contents) // BLOCK, CODE) + named(
+            title).ljust(16, b"\0") + words(last, 0)
+    return (bytes(DIRECTORY * BLOCK) + directory.ljust((AFTER_DIRECTORY - DIRECTORY) * BLOCK, b"\0")
+            + contents).ljust(blocks * BLOCK, b"\0")
 
 
-VOLUMES = {"disk.po": volume("DISK", 280, {"HOST.CODE": SAMPLES["host.code"], "LIBRARY.CODE": SAMPLES["library.code"]})}
+VOLUMES = {"disk.po": volume(
+    "DISK", 280, {"HOST.CODE": SAMPLES["host.code"], "LIBRARY.CODE": SAMPLES["library.code"]})}
 
 # Files elsewhere in the repository: the host with UTIL in it, with which the tests run the program.
 UNIT = [Procedure(1, ["LAO BIG 0", "SRO BIG 2", "NOP", "NOP", "RNP 0"])]
-ELSEWHERE = {
-    "crates/ps_linker/data/host.code": code_file(
-        {1: DEMO, 7: Segment("UTIL", UNITSEG, UNIT, [publ_ref("COUNT", [1]), eof_mark(0)])}, tail=TAIL
-    ),
-}
+ELSEWHERE = {"crates/ps_linker/data/host.code": code_file(
+    {1: DEMO, 7: Segment("UTIL", UNITSEG, UNIT, [publ_ref("COUNT", [1]), eof_mark(0)])}, tail=TAIL
+)}
 
 
 def main():

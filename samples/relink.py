@@ -1,14 +1,16 @@
 #!/usr/bin/env python3
-"""Makes a linked file without a linker: from its inputs, and from what `pslink map --references --json HOST LIB..` prints of
-them. So a build can check a link. Usage: relink.py DOCUMENT OUT HOST LIB.., where DOCUMENT has that text. The status is 0 if OUT is
-the file that is made so; otherwise it is 1, and a line is printed of each part that differs or does not fit."""
+"""Makes a linked file without a linker: from its inputs, and from what `pslink map --references
+--json HOST LIB..` prints of them. So a build can check a link. Usage: relink.py DOCUMENT OUT HOST
+LIB.., where DOCUMENT has that text. The status is 0 if OUT is the file that is made so; otherwise
+it is 1, and a line is printed of each part that differs or does not fit."""
 import json
 import pathlib
 import sys
 import typing
 
 BLOCK = 512
-NAMES, KINDS, TEXTS_END = 64, 192, 256  # offsets in the dictionary: the names, the kinds, the end of the text addresses
+# offsets in the dictionary: the names, the kinds, the end of the text addresses
+NAMES, KINDS, TEXTS_END = 64, 192, 256
 
 
 class Part(typing.NamedTuple):
@@ -29,8 +31,8 @@ def whole(code):
 
 
 def relinked(document, files):
-    """The parts of the linked file, from the document and the bytes of the host and of each library; and what in the document does
-    not fit them."""
+    """The parts of the linked file, from the document and the bytes of the host and of each
+    library; and what in the document does not fit them."""
     host, misfits = files[0], []
     order = "little" if any(host[KINDS : KINDS + 32 : 2]) else "big"
     names = [host[place : place + 8] for place in range(NAMES, KINDS, 8)]
@@ -38,26 +40,32 @@ def relinked(document, files):
     for segment in document["segments"]:
         slot, title = segment["slot"], f"slot {segment['slot']:02} {segment['name'].strip()}"
         if segment["file"] >= len(files):
-            raise Unfit(f"{title} is of file {segment['file']}, and the files given are 0 to {len(files) - 1}")
+            raise Unfit(
+                f"{title} is of file {segment['file']}, and the files given are 0 to "
+                f"{len(files) - 1}")
         file, entry = files[segment["file"]], 4 * segment["entry"]
         start = BLOCK * int.from_bytes(file[entry : entry + 2], order)
         size = int.from_bytes(file[entry + 2 : entry + 4], order)
         codes[slot] = Part(BLOCK * block, bytearray(file[start : start + size]), title)
         if (segment["block"], segment["length"]) != (block, size):
-            misfits.append(f"{title}: block {segment['block']} and length {segment['length']}, and not {block} and {size}")
+            misfits.append(
+                f"{title}: block {segment['block']} and length {segment['length']}, and not "
+                f"{block} and {size}")
         pairs[4 * slot : 4 * slot + 4] = block.to_bytes(2, order) + size.to_bytes(2, order)
         names[slot] = bytes.fromhex(segment["name_hex"])
         block += len(whole(codes[slot].content)) // BLOCK
     misfits += [line for stored in document["references"] for line in store(stored, codes)]
     dictionary = bytes(pairs) + b"".join(names) + bytes(TEXTS_END - KINDS) + host[TEXTS_END:BLOCK]
-    return [Part(0, bytearray(dictionary), "the dictionary"), *(part for _, part in sorted(codes.items()))], misfits
+    return [Part(0, bytearray(dictionary), "the dictionary"),
+            *(part for _, part in sorted(codes.items()))], misfits
 
 
 def store(stored, codes):
     """Puts into a code what the link stores at a place of it. What does not fit is said."""
     slot, place = stored["slot"], stored["at"]
     if slot not in codes:
-        yield f"slot {slot:02} {stored['name'].strip()} at {place}: the document has no such segment"
+        yield (f"slot {slot:02} {stored['name'].strip()} at {place}: the document has no such "
+               "segment")
         return
     start, code, title = codes[slot]
     was, now = bytes.fromhex(stored["was"]), bytes.fromhex(stored["is"])
@@ -75,11 +83,16 @@ def content_of(parts):
 def others(parts, linked, out):
     """Of each part of which this file has other bytes, how many and where the first is."""
     end = len(content_of(parts))
-    compared = [(part.title, part.start, whole(part.content), linked[part.start : part.start + len(whole(part.content))]) for part in parts]
-    for title, start, made, there in [*compared, ("after the last segment", end, b"", linked[end:])]:
-        places = [place for place in range(max(len(made), len(there))) if made[place : place + 1] != there[place : place + 1]]
+    compared = [(part.title, part.start, whole(part.content),
+                 linked[part.start : part.start + len(whole(part.content))]) for part in parts]
+    for title, start, made, there in [*compared,
+                                      ("after the last segment", end, b"", linked[end:])]:
+        places = [place
+                  for place in range(max(len(made), len(there)))
+                  if made[place : place + 1] != there[place : place + 1]]
         if places:
-            yield f"{title}: {len(places)} other bytes, the first at {places[0]}, which is {start + places[0]} of {out}"
+            yield (f"{title}: {len(places)} other bytes, the first at {places[0]}, which is "
+                   f"{start + places[0]} of {out}")
 
 
 def content_at(path):
