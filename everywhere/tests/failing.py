@@ -1,7 +1,9 @@
 #!/usr/bin/env python3
-"""Has each call of the system fail in turn, in the commands of a program that is linked with failing.c: where a file or a stream could
-not be opened, read, written or closed, the command ends with 3 and says so; where only what is known of a file could not be had, it
-does as without. A call that a signal breaks off is made again. Prints each difference, and counts. Usage: failing.py PROGRAM SAMPLES"""
+"""Has each call of the system fail in turn, in the commands of a program that is linked with
+failing.c: where a file or a stream could not be opened, read, written or closed, the command ends
+with 3 and says so; where only what is known of a file could not be had, it does as without. A call
+that a signal breaks off is made again. Prints each difference, and counts. Usage: failing.py
+PROGRAM SAMPLES"""
 import errno
 import os
 import pathlib
@@ -13,8 +15,8 @@ COMMANDS = [
     "link -o out host library", "link host out library", "link -q -o out --map mapped host library",
     "map host library", "show library", "check host library", "list host library",
 ]
-# The statuses that a command may end with where this call fails, by its kind and what it is of. A report of files, or a list, goes on
-# beside a file that cannot be read.
+# The statuses that a command may end with where this call fails, by its kind and what it is of. A
+# report of files, or a list, goes on beside a file that cannot be read.
 FAILED = {"open": {3}, "create": {3}, "read": {3}, "write": {3}, "close created": {3}}
 HARMLESS = ("stat", "fstat", "close opened")
 
@@ -35,7 +37,8 @@ class Folder:
                 (folder / name).write_bytes(content)
             failed = pathlib.Path(room, "failed")
             given = {**os.environ, "FAILED": str(failed), **environment}
-            done = subprocess.run([self.program, *words.split()], cwd=folder, env=given, capture_output=True)
+            done = subprocess.run([self.program, *words.split()], cwd=folder, env=given,
+                                  capture_output=True)
             left = {path.name: path.read_bytes() for path in folder.iterdir()}
             call = failed.read_text().split() if failed.exists() else None
         return (done.returncode, done.stdout, done.stderr, left), call
@@ -56,7 +59,9 @@ def wrong(call, found, wanted):
         return f"its status is {status}"
     if not error.startswith(b"pslink: cannot ") or error.count(b"\n") != 1:
         return f"it says {error!r}"
-    if any(left.get(name) != content for name, content in {"host": wanted[3]["host"], "library": wanted[3]["library"]}.items()):
+    if any(left.get(name) != content
+           for name, content in {"host": wanted[3]["host"],
+                                 "library": wanted[3]["library"]}.items()):
         return "an input is changed"
     return None
 

@@ -16,29 +16,52 @@ SANITIZED = ["-std=gnu11", "-O1", "-fsanitize=address,undefined", "-fno-sanitize
 # What is wrong, the file, the text there, and the text in its place.
 UNIX, COMMON, WINDOWS, NODE = "host_unix.c", "host.c", "host_windows.c", "host.mjs"
 BUGS = [
-    ("a short read taken as whole", UNIX, "return count < 0 ? why(errno) : (int64_t)count;\n}\n\nint64_t host_write", "return count <= 0 ? count : (int64_t)size;\n}\n\nint64_t host_write"),
-    ("a write that is cut off taken as whole", UNIX, "count = write((int)file, bytes, size < MOST_AT_ONCE ? size : MOST_AT_ONCE);",
+    ("a short read taken as whole", UNIX,
+     "return count < 0 ? why(errno) : (int64_t)count;\n}\n\nint64_t host_write",
+     "return count <= 0 ? count : (int64_t)size;\n}\n\nint64_t host_write"),
+    ("a write that is cut off taken as whole", UNIX,
+     "count = write((int)file, bytes, size < MOST_AT_ONCE ? size : MOST_AT_ONCE);",
      "count = write((int)file, bytes, size < 40 ? size : 40) < 0 ? -1 : (ssize_t)size;"),
-    ("a file that is there is not emptied", UNIX, "O_WRONLY | O_CREAT | O_TRUNC", "O_WRONLY | O_CREAT"),
-    ("only a new file is created", UNIX, "O_WRONLY | O_CREAT | O_TRUNC", "O_WRONLY | O_CREAT | O_EXCL"),
-    ("the status of a close is lost", UNIX, "return close((int)file) == 0 || errno == EINTR ? 0 : why(errno);", "return close((int)file), 0;"),
-    ("a read that is broken off fails", UNIX, "    do\n        count = read((int)file, room, size < MOST_AT_ONCE ? size : MOST_AT_ONCE);\n    while (count < 0 && errno == EINTR);",
+    ("a file that is there is not emptied", UNIX, "O_WRONLY | O_CREAT | O_TRUNC",
+     "O_WRONLY | O_CREAT"),
+    ("only a new file is created", UNIX, "O_WRONLY | O_CREAT | O_TRUNC",
+     "O_WRONLY | O_CREAT | O_EXCL"),
+    ("the status of a close is lost", UNIX,
+     "return close((int)file) == 0 || errno == EINTR ? 0 : why(errno);",
+     "return close((int)file), 0;"),
+    ("a read that is broken off fails", UNIX,
+     "    do\n        count = read((int)file, room, size < MOST_AT_ONCE ? size : "
+     "MOST_AT_ONCE);\n    while (count < 0 && errno == EINTR);",
      "    count = read((int)file, room, size < MOST_AT_ONCE ? size : MOST_AT_ONCE);"),
-    ("a write that is broken off fails", UNIX, "    do\n        count = write((int)file, bytes, size < MOST_AT_ONCE ? size : MOST_AT_ONCE);\n    while (count < 0 && errno == EINTR);",
+    ("a write that is broken off fails", UNIX,
+     "    do\n        count = write((int)file, bytes, size < MOST_AT_ONCE ? size : "
+     "MOST_AT_ONCE);\n    while (count < 0 && errno == EINTR);",
      "    count = write((int)file, bytes, size < MOST_AT_ONCE ? size : MOST_AT_ONCE);"),
-    ("an open that is broken off fails", UNIX, "    while (file < 0 && errno == EINTR);", "    while (0);"),
-    ("no two paths lead to one file", UNIX, "S_ISREG(one.st_mode) && are_one(&one, &two)", "S_ISREG(one.st_mode) && 0"),
-    ("all files of a device are one", UNIX, "one->st_ino == two->st_ino && one->st_dev", "one->st_dev"),
+    ("an open that is broken off fails", UNIX, "    while (file < 0 && errno == EINTR);",
+     "    while (0);"),
+    ("no two paths lead to one file", UNIX, "S_ISREG(one.st_mode) && are_one(&one, &two)",
+     "S_ISREG(one.st_mode) && 0"),
+    ("all files of a device are one", UNIX, "one->st_ino == two->st_ino && one->st_dev",
+     "one->st_dev"),
     ("pipes are one file", UNIX, "S_ISREG(one.st_mode) && are_one", "are_one"),
-    ("no path leads to standard output", UNIX, "fstat(STDOUT_FILENO, &two) == 0 && are_one(&one, &two)", "0"),
-    ("standard error is taken for standard output", UNIX, "fstat(STDOUT_FILENO, &two)", "fstat(STDERR_FILENO, &two)"),
-    ("a pipe that nobody reads ends the process", UNIX, "    signal(SIGPIPE, SIG_IGN);\n", "    signal(SIGPIPE, SIG_DFL);\n"),
-    ("a read that failed is the end", UNIX, "return count < 0 ? why(errno) : (int64_t)count;\n}\n\nint64_t host_write", "return count < 0 ? 0 : (int64_t)count;\n}\n\nint64_t host_write"),
-    ("an argument too far", COMMON, "strlen(texts[number]);", "strlen(texts[number + 1 < (size_t)arguments ? number + 1 : number]);"),
-    ("the last argument is left out", COMMON, "if (number >= (size_t)arguments)", "if (number + 1 >= (size_t)arguments && number > 1)"),
+    ("no path leads to standard output", UNIX,
+     "fstat(STDOUT_FILENO, &two) == 0 && are_one(&one, &two)", "0"),
+    ("standard error is taken for standard output", UNIX, "fstat(STDOUT_FILENO, &two)",
+     "fstat(STDERR_FILENO, &two)"),
+    ("a pipe that nobody reads ends the process", UNIX, "    signal(SIGPIPE, SIG_IGN);\n",
+     "    signal(SIGPIPE, SIG_DFL);\n"),
+    ("a read that failed is the end", UNIX,
+     "return count < 0 ? why(errno) : (int64_t)count;\n}\n\nint64_t host_write",
+     "return count < 0 ? 0 : (int64_t)count;\n}\n\nint64_t host_write"),
+    ("an argument too far", COMMON, "strlen(texts[number]);",
+     "strlen(texts[number + 1 < (size_t)arguments ? number + 1 : number]);"),
+    ("the last argument is left out", COMMON, "if (number >= (size_t)arguments)",
+     "if (number + 1 >= (size_t)arguments && number > 1)"),
     ("an argument is cut to the room", COMMON, "        return -2;\n", "        length = size;\n"),
-    ("an argument ends with its 0", COMMON, "length = strlen(texts[number]);", "length = strlen(texts[number]) + 1;"),
-    ("a missing file is one that may not be read", COMMON, "        return HOST_MISSING;", "        return HOST_FORBIDDEN;"),
+    ("an argument ends with its 0", COMMON, "length = strlen(texts[number]);",
+     "length = strlen(texts[number]) + 1;"),
+    ("a missing file is one that may not be read", COMMON, "        return HOST_MISSING;",
+     "        return HOST_FORBIDDEN;"),
     ("a folder is missing", COMMON, "        return HOST_FOLDER;", "        return HOST_MISSING;"),
     ("a path with a 0 is cut there", COMMON, "    if (memchr(path, 0, length) != NULL)\n        return HOST_NO_PATH;\n", ""),
     ("a path has no end", COMMON, "    text[length] = '\\0';\n", "    text[length] = 'x', text[length + 1] = '\\0';\n"),
@@ -101,7 +124,8 @@ def over_node(folder):
 
 
 def untold(bugs):
-    """Plants each of these bugs, prints what tells it, and gives the number of those that nothing tells."""
+    """Plants each of these bugs, prints what tells it, and gives the number of those that nothing
+    tells."""
     count = 0
     for what, name, text, other in bugs:
         source = WEB if name == NODE else C

@@ -1,9 +1,11 @@
 #!/usr/bin/env python3
-"""Answers of the library beside those of the program, through C and through Python: the samples, in each text and form; the single
-files of .ci/damage; the sets of files of .ci/report, of those that it generates some, with their reports, and some of them in each text;
-and the longest linked file, 500 libraries, a fault in library 300, and a map and a show of more than 64 KiB, whose answers are worked out
-here too. Leaves these files in FOLDER, for .ci/library to measure. Prints what is otherwise.
-Usage: beside.py PSLINK PROGRAM LINKED FOLDER: the program, program.c as it was built, and to what the sample pair is linked"""
+"""Answers of the library beside those of the program, through C and through Python: the samples, in
+each text and form; the single files of .ci/damage; the sets of files of .ci/report, of those that
+it generates some, with their reports, and some of them in each text; and the longest linked file,
+500 libraries, a fault in library 300, and a map and a show of more than 64 KiB, whose answers are
+worked out here too. Leaves these files in FOLDER, for .ci/library to measure. Prints what is
+otherwise. Usage: beside.py PSLINK PROGRAM LINKED FOLDER: the program, program.c as it was built,
+and to what the sample pair is linked"""
 import dataclasses
 import json
 import pathlib
@@ -25,14 +27,17 @@ LONGEST_CODE = 64 * m.BLOCK - 2
 OPERANDS = 32_000
 SOME = 100  # generated sets
 # what a text has beside map, show and check, with the program's words for it
-TEXTS = ["map --json", "map --references", "map --references --json", "show --json", "check --json", "list", "list --json", "check --unit", "check --unit --json"]
-SAMPLE_SETS = ["host library", "big_host big_library", "host using used", "two_units", "nine", "procedures library", "host", "library host"]
+TEXTS = ["map --json", "map --references", "map --references --json", "show --json", "check --json",
+         "list", "list --json", "check --unit", "check --unit --json"]
+SAMPLE_SETS = ["host library", "big_host big_library", "host using used", "two_units", "nine",
+               "procedures library", "host", "library host"]
 
 
 def longest(is_linked):
     """A host of sixteen codes of 64 blocks each, or what it is linked to."""
     body = (bytes(range(256)) * 128)[: LONGEST_CODE - 15]
-    slots = {slot: m.Segment(f"SEG{slot:05}", m.LINKED, [m.Procedure([bytes([slot]), body])]) for slot in range(16)}
+    slots = {slot: m.Segment(f"SEG{slot:05}", m.LINKED, [m.Procedure([bytes([slot]), body])])
+             for slot in range(16)}
     if not is_linked:
         slots[0] = dataclasses.replace(slots[0], kind=m.HOSTSEG, records=[m.eof_mark(8)])
     return m.written(m.File(slots))
@@ -46,21 +51,23 @@ def long_pair():
 
 
 def long_cases():
-    """For each long case: its name, its files, and for each command the status, the output, what is on error output, and the
-    linked file, each None where it is compared with the program alone."""
+    """For each long case: its name, its files, and for each command the status, the output, what is
+    on error output, and the linked file, each None where it is compared with the program alone."""
     none = bytes(m.BLOCK)
     yield ("the longest linked file", [longest(False)],
            {"link": (0, "segments 16 private words 0 blocks 1025\n", "", longest(True))})
     yield ("500 libraries", [HOST, *[none] * 499, LIBRARY],
            {"link": (0, "segments 2 private words 4 blocks 3\n", "", LINKED.read_bytes())})
     fault = (1, "", "pslink: refused 1 ShortFile file 300\n", None)
-    yield ("a fault in library 300", [HOST, *[none] * 299, none[1:], LIBRARY], {"link": fault, "map": fault})
+    yield ("a fault in library 300", [HOST, *[none] * 299, none[1:], LIBRARY],
+           {"link": fault, "map": fault})
     # (a line of a public has 24 bytes, and one of a record as many at least)
     yield ("a long map and a long show", long_pair(), {})
 
 
 def without_refusal(command, answer):
-    """The answer of the program without the document of a refusal, which names the fault of the line: the library has its parts."""
+    """The answer of the program without the document of a refusal, which names the fault of the
+    line: the library has its parts."""
     if answer.status != 1 or "--json" not in command or not answer.printed.startswith('{"path":'):
         return answer
     fault = json.loads(answer.printed)["fault"]
@@ -69,7 +76,8 @@ def without_refusal(command, answer):
 
 
 def differences(pslink, others, what, command, files, wanted=None):
-    """What the program answers otherwise than is wanted, and others than the program. Python is given the bytes of the files."""
+    """What the program answers otherwise than is wanted, and others than the program. Python is
+    given the bytes of the files."""
     word, *flags = command.split()
     host, *libraries = files[:1] if word == "show" else files
     answer = without_refusal(command, pslink(word, host, libraries, *flags))
@@ -79,10 +87,12 @@ def differences(pslink, others, what, command, files, wanted=None):
     found = {language: run(word, host, libraries, *flags) for language, run in others.items()}
     found["Python"] = program.answer(word, host, libraries, names, flags)
     # (such a text is all that the library answers of them, whatever the program ends with)
-    is_text_alone = command in ("check --json", "list", "list --json", "check --unit", "check --unit --json")
+    is_text_alone = command in ("check --json", "list", "list --json", "check --unit",
+                                "check --unit --json")
     for language, one in found.items():
         if (one[1:] if is_text_alone else one) != (answer[1:] if is_text_alone else answer):
-            yield f"{what}: {command}: {language} answers {str(one)[:300]}, and the program {str(answer)[:300]}"
+            yield (f"{what}: {command}: {language} answers {str(one)[:300]}, and the program "
+                   f"{str(answer)[:300]}")
 
 
 def of_samples(*linkers):
@@ -98,7 +108,9 @@ def of_damage(*linkers):
     """The files that came to harm or are given in place of others, whose reports .ci/damage has."""
     damage = runpy.run_path(str(ROOT / ".ci/damage"))
     tables = damage["rows"](), damage["wrong_files"](LINKED.read_bytes())
-    sets = [[host, *libraries] for table in tables for _, _, host, libraries in damage["cases_of"](table)]
+    sets = [[host, *libraries]
+            for table in tables
+            for _, _, host, libraries in damage["cases_of"](table)]
     if len(sets) < damage["SINGLE"]:
         yield f".ci/damage has {len(sets)} sets of files"
     for number, files in enumerate(sets):
@@ -109,16 +121,19 @@ def of_damage(*linkers):
 
 
 def of_report(*linkers):
-    """The sets of files that .ci/report runs the program on, without most of those that it generates: what is between the library's
-    functions and a caller does not depend on them."""
-    sets = {(bytes(host), tuple(map(bytes, libraries))): None for host, libraries in runpy.run_path(str(ROOT / ".ci/report"))["sets"](SOME)}
+    """The sets of files that .ci/report runs the program on, without most of those that it
+    generates: what is between the library's functions and a caller does not depend on them."""
+    sets = {(bytes(host), tuple(map(bytes, libraries))): None
+            for host, libraries in runpy.run_path(str(ROOT / ".ci/report"))["sets"](SOME)}
     if len(sets) < 450:
         yield f".ci/report has {len(sets)} sets of files"
     for number, (host, libraries) in enumerate(sets):
         for command in ("link", "map", "check --strict"):
-            yield from differences(*linkers, f"files {number} of .ci/report", command, [host, *libraries])
+            yield from differences(*linkers, f"files {number} of .ci/report", command,
+                                   [host, *libraries])
         for command in TEXTS if number % 10 == 0 else ():
-            yield from differences(*linkers, f"files {number} of .ci/report", command, [host, *libraries])
+            yield from differences(*linkers, f"files {number} of .ci/report", command,
+                                   [host, *libraries])
     for file in {file for host, libraries in sets for file in [host, *libraries]}:
         yield from differences(*linkers, "a file of .ci/report", "show", [file])
 
@@ -137,7 +152,8 @@ def of_long_files(*linkers):
 
 def main():
     by_paths = ROOT / "library/tests/program.py"
-    with Commands(PSLINK) as pslink, Commands(PROGRAM, serves=True) as in_c, Commands(by_paths, serves=True) as python:
+    with Commands(PSLINK) as pslink, Commands(PROGRAM, serves=True) as in_c, Commands(
+            by_paths, serves=True) as python:
         by_each = {"C": in_c, "Python, given paths,": python}
         found = [*of_samples(pslink, by_each), *of_damage(pslink, by_each)]
         found += [*of_report(pslink, {"C": in_c}), *of_long_files(pslink, {"C": in_c})]

@@ -25,7 +25,8 @@ def of_header():
 
 def of_manual():
     """The text between .EX and .EE, as it is read."""
-    return PAGE.split("\n.EX\n", 1)[1].split("\n.EE\n", 1)[0].replace("\\e", "\\").replace("\\-", "-") + "\n"
+    return (PAGE.split("\n.EX\n", 1)[1].split("\n.EE\n", 1)[0].replace("\\e", "\\").replace(
+        "\\-", "-") + "\n")
 
 
 def declarations():
@@ -40,16 +41,20 @@ def declarations():
 
 def types(text):
     """Each structure of a text, without comments and spaces."""
-    found = re.findall(r"typedef struct \w+ \{.*?\} \w+;", re.sub(r"/\*.*?\*/", "", text, flags=re.S), re.S)
+    found = re.findall(r"typedef struct \w+ \{.*?\} \w+;",
+                       re.sub(r"/\*.*?\*/", "", text, flags=re.S), re.S)
     return sorted(" ".join(structure.split()) for structure in found)
 
 
 def main():
     folder = pathlib.Path(sys.argv[1])
-    (folder / "header.c").write_text(of_header() + (ROOT / "library/tests/link_two_main.c").read_text())
+    (folder / "header.c").write_text(of_header()
+                                     + (ROOT / "library/tests/link_two_main.c").read_text())
     (folder / "manual.c").write_text(of_manual())
-    (folder / "declarations.c").write_text("\n".join(declarations()) + "\nint main(void) { return 0; }\n")
-    embedding = "".join((ROOT / f"docs/{page}.md").read_text() for page in ("EMBEDDING", "PYTHON", "RUST"))
+    (folder / "declarations.c").write_text(
+        "\n".join(declarations()) + "\nint main(void) { return 0; }\n")
+    embedding = "".join((ROOT / f"docs/{page}.md").read_text()
+                        for page in ("EMBEDDING", "PYTHON", "RUST"))
     for language, text in re.findall(r"^```(\w+)\n(.*?)^```$", embedding, re.M | re.S):
         if language == "cmake":
             (folder / "CMakeLists.txt").write_text(text)
@@ -63,11 +68,14 @@ def main():
     if not types(HEADER) or types(HEADER) != types(PAGE):
         print(f"the types of pslink(3) are {types(PAGE)}, and those of the header {types(HEADER)}")
         return 1
-    functions = set(re.findall(r"^(?:uint32_t|size_t|const char \*)\s*(pslink_\w+)\(", HEADER, re.M))
+    functions = set(re.findall(r"^(?:uint32_t|size_t|const char \*)\s*(pslink_\w+)\(", HEADER,
+                               re.M))
     named = set(re.findall(r"pslink_\w+", PAGE.split("\n.SH NAME\n", 1)[1].split("\n", 1)[0]))
-    installed = set(re.search(r"^CALLS = (.*?[^\\])\n", (ROOT / "Makefile").read_text(), re.M | re.S)[1].split()) - {"\\"}
+    installed = set(re.search(r"^CALLS = (.*?[^\\])\n", (ROOT / "Makefile").read_text(),
+                              re.M | re.S)[1].split()) - {"\\"}
     if functions != named or functions != installed:
-        print(f"pslink(3) names {named ^ functions} otherwise than the header, and the Makefile {installed ^ functions}")
+        print(f"pslink(3) names {named ^ functions} otherwise than the header, and the Makefile "
+              f"{installed ^ functions}")
         return 1
     return 0
 

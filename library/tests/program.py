@@ -11,8 +11,12 @@ PARTS = ["kind", "file", "slot", "record", "reference"]
 
 def refusal(fault):
     """The line of a refusal, whose text and parts are one."""
-    parts = [f"refused {fault.number} {fault.name}", *(f"{name} {getattr(fault, name)}" for name in PARTS if getattr(fault, name) is not None)]
-    return f"pslink: {fault}\n" if " ".join(parts) == str(fault) else f"pslink: {parts} is not {fault}\n"
+    parts = [f"refused {fault.number} {fault.name}",
+             *(f"{name} {getattr(fault, name)}"
+               for name in PARTS
+               if getattr(fault, name) is not None)]
+    return (f"pslink: {fault}\n" if " ".join(parts) == str(fault)
+            else f"pslink: {parts} is not {fault}\n")
 
 
 def of_link(host, libs):
@@ -27,21 +31,25 @@ def checked(host, libs, strict):
     """What the program's check answers, whose verdict is that of a link."""
     report = pslink.check(host, libs)
     verdict = report.summary if report.fault is None else str(report.fault)
-    wrong = "" if verdict == of_link(host, libs) else f"pslink: {verdict} is not the verdict of a link\n"
+    wrong = ("" if verdict == of_link(host, libs)
+             else f"pslink: {verdict} is not the verdict of a link\n")
     said = sum(line.startswith("warning: ") for line in report.text.splitlines())
-    wrong += "" if len(report.warnings) == said else f"pslink: {len(report.warnings)} warnings are told, and {said} said\n"
+    wrong += (""
+              if len(report.warnings) == said
+              else f"pslink: {len(report.warnings)} warnings are told, and {said} said\n")
     return 0 if report.ok and not (strict and report.warnings) else 1, report.text, wrong, None
 
 
 def answer(command, host, libs, names=None, flags=()):
-    """What the program answers: its status, its output and its error output, and of a link the file. (Of a report, a list and its
-    units as texts the status is 0.)"""
+    """What the program answers: its status, its output and its error output, and of a link the
+    file. (Of a report, a list and its units as texts the status is 0.)"""
     strict, texts = "--strict" in flags, [flag for flag in flags if flag != "--strict"]
     if names is not None:
         host, *libs = zip(names, [host, *libs])
     try:
         if texts or command == "list":
-            what = {"--references": "references", "--unit": "units"}.get(texts[0] if texts else "", command)
+            what = {"--references": "references", "--unit": "units"}.get(
+                texts[0] if texts else "", command)
             return 0, pslink.text(what, host, libs, "--json" in texts), "", None
         if command == "check":
             return checked(host, libs, strict)
@@ -52,13 +60,14 @@ def answer(command, host, libs, names=None, flags=()):
         linked, summary = pslink.link_with_summary(host, libs)
     except pslink.Refused as fault:
         return 1, "", refusal(fault), None
-    numbers = f"segments {summary.segments} private words {summary.private_words} blocks {summary.blocks}\n"
+    numbers = (f"segments {summary.segments} private words {summary.private_words} blocks "
+               f"{summary.blocks}\n")
     return 0, numbers, "", linked
 
 
 def answered(words):
-    """What the command of these words answers, as above, and the file to write. (Paths are read by the package, and are the
-    names in a report.)"""
+    """What the command of these words answers, as above, and the file to write. (Paths are read by
+    the package, and are the names in a report.)"""
     command, *paths = words
     flags = [path for path in paths if path.startswith("--")]
     paths = [path for path in paths if path not in flags]

@@ -3,13 +3,14 @@
     import pslink
     linked = pslink.link("host.code", ["library.code"])
 
-A file is the path of a code file, which is read; or bytes, or whatever else has bytes, with a whole one; or a pair of a name and one of
-these. Texts call a file by its name, or else by its path, or else `file 0`, `file 1` and so on. The files' fault, if they have one, is
-raised as `Refused`.
+A file is the path of a code file, which is read; or bytes, or whatever else has bytes, with a whole
+one; or a pair of a name and one of these. Texts call a file by its name, or else by its path, or
+else `file 0`, `file 1` and so on. The files' fault, if they have one, is raised as `Refused`.
 
-The shared object is the file that PSLINK_LIBRARY names, or else libpslink.so.3 of the folder `lib` beside `bindings`, as in an archive
-of pslink that is unpacked, or else where the system's loader finds it, or else where pkg-config has it. If there is none, or one of
-another interface or one that is too old for this package, the import of this package is an ImportError.
+The shared object is the file that PSLINK_LIBRARY names, or else libpslink.so.3 of the folder `lib`
+beside `bindings`, as in an archive of pslink that is unpacked, or else where the system's loader
+finds it, or else where pkg-config has it. If there is none, or one of another interface or one that
+is too old for this package, the import of this package is an ImportError.
 """
 
 import array
@@ -29,9 +30,10 @@ __all__ = [
     "File", "Finding", "Refused", "Report", "Summary", "Text", "check", "fault_meaning", "fault_name", "fault_remedy", "link",
     "link_with_summary", "release_number", "show", "text",
     "units_wanted", "units_had",
-]  # fmt: skip
+]
 __version__ = "0.4.0"
-# The interface that this package calls, by the node of the library's symbols, and the number of the first release that has all of it.
+# The interface that this package calls, by the node of the library's symbols, and the number of the
+# first release that has all of it.
 _NODE = b"PSLINK_3"
 _FIRST_RELEASE_NUMBER = 300
 
@@ -40,11 +42,12 @@ if TYPE_CHECKING:
     _Contents = Union[ReadableBuffer, str, "os.PathLike[str]", "os.PathLike[bytes]"]
 else:
     # (where a program asks for the hints; Python 3.8 says no more of `array` and `PathLike`)
-    _Contents = Union[bytes, bytearray, memoryview, array.array, mmap.mmap, ctypes.Array, str, os.PathLike]
+    _Contents = Union[bytes, bytearray, memoryview, array.array, mmap.mmap, ctypes.Array, str,
+                      os.PathLike]
 File = Union[_Contents, Tuple[str, _Contents]]
 
-# What `text` makes, as the commands of the program call it: `references` is the map with them, `units` is `check --unit`, `findings` is
-# what a `check` finds, one by one.
+# What `text` makes, as the commands of the program call it: `references` is the map with them,
+# `units` is `check --unit`, `findings` is what a `check` finds, one by one.
 Text = Literal["map", "references", "show", "check", "list", "units", "findings"]
 _TEXTS = {"map": 0, "references": 1, "show": 2, "check": 3, "list": 4, "units": 5, "findings": 6}
 _NAMES = {"wanted": 7, "had": 8}
@@ -114,7 +117,8 @@ def _candidates():
     yield _LIBRARY
     command = [os.environ.get("PKG_CONFIG", "pkg-config"), "--variable=libdir", "pslink"]
     try:
-        found = subprocess.run(command, stdout=subprocess.PIPE, stderr=subprocess.DEVNULL, check=True)
+        found = subprocess.run(command, stdout=subprocess.PIPE, stderr=subprocess.DEVNULL,
+                               check=True)
     except (OSError, RuntimeError, subprocess.CalledProcessError):
         # (an isolated subinterpreter starts no program)
         return
@@ -137,7 +141,8 @@ def _open():
 def _has_node(library):
     """The loader finds a function of this library by its name and the node of the interface."""
     find = ctypes.CDLL(None).dlvsym
-    find.argtypes, find.restype = [ctypes.c_void_p, ctypes.c_char_p, ctypes.c_char_p], ctypes.c_void_p
+    find.argtypes, find.restype = [ctypes.c_void_p, ctypes.c_char_p,
+                                   ctypes.c_char_p], ctypes.c_void_p
     return find(library._handle, b"pslink_link", _NODE) is not None
 
 
@@ -151,9 +156,11 @@ def _load():
         raise ImportError(f"{path} is no library of pslink {__version__}: {error}") from error
     release = library.pslink_release_number()
     if not _has_node(library):
-        raise ImportError(f"{path}, of release {release}, has another interface: its symbols lack the node {_NODE.decode()}")
+        raise ImportError(f"{path}, of release {release}, has another interface: its symbols lack "
+                          f"the node {_NODE.decode()}")
     if release < _FIRST_RELEASE_NUMBER:
-        raise ImportError(f"{path} is too old: it is of release {release}, and this package calls those from {_FIRST_RELEASE_NUMBER} on")
+        raise ImportError(f"{path} is too old: it is of release {release}, and this package calls "
+                          f"those from {_FIRST_RELEASE_NUMBER} on")
     return library
 
 
@@ -172,28 +179,33 @@ def fault_name(number: int) -> str:
 
 
 def fault_meaning(number: int) -> str:
-    """What the fault of this number means, as 'No segment of the file is a host program.'; '' where there is none."""
+    """What the fault of this number means, as 'No segment of the file is a host program.'; '' where
+    there is none."""
     return _said(number, _MEANING)
 
 
 def fault_remedy(number: int) -> str:
-    """What to do about it, as 'Keep one of them in the file.', where `the file` is the one at fault."""
+    """What to do about it, as 'Keep one of them in the file.', where `the file` is the one at
+    fault."""
     return _said(number, _REMEDY)
 
 
 def release_number() -> int:
-    """The release of the library as a number to compare, as 300 for 0.3.0: 10000 times its first part, 100 times its second,
-    and its third."""
+    """The release of the library as a number to compare, as 300 for 0.3.0: 10000 times its first
+    part, 100 times its second, and its third."""
     return int(_library.pslink_release_number())
 
 
 class Refused(Exception):
-    """The files are refused. Its text is that of the fault, as 'refused 13 MissingUnit file 0 slot 7'.
+    """The files are refused. Its text is that of the fault, as 'refused 13 MissingUnit file 0 slot
+    7'.
 
-    number: the number of the fault, from 1. name: its name. file: the file at fault, 0 for the host, k for the k-th library. path: what
-    texts call that file. kind, slot, record, reference: numbers, each None where the fault has none. about: the name of that unit,
-    segment, symbol or variable which is at fault, as 'UTIL', after MissingUnit that of the unit to look for; None where the fault is of
-    none. `meaning` and `remedy` are sentences: what the fault is, and what to do about it.
+    number: the number of the fault, from 1. name: its name. file: the file at fault, 0 for the
+    host, k for the k-th library. path: what texts call that file. kind, slot, record, reference:
+    numbers, each None where the fault has none. about: the name of that unit, segment, symbol or
+    variable which is at fault, as 'UTIL', after MissingUnit that of the unit to look for; None
+    where the fault is of none. `meaning` and `remedy` are sentences: what the fault is, and what to
+    do about it.
     """
 
     def __init__(
@@ -243,7 +255,8 @@ class Refused(Exception):
 
 
 class Summary(NamedTuple):
-    """What a linked file has: how many segments, words of private variables, and blocks of 512 bytes."""
+    """What a linked file has: how many segments, words of private variables, and blocks of 512
+    bytes."""
 
     segments: int
     private_words: int
@@ -253,9 +266,9 @@ class Summary(NamedTuple):
 class Finding(NamedTuple):
     """What a check finds in files and is no fault.
 
-    weight: 'warning', which is certain; 'note', a guess; or 'harmless', which changes no link. path: what the report calls the file.
-    segment: the name of the segment that it is in, as 'UTIL', or None. record: the index of the record, or None. text: what is said of
-    it.
+    weight: 'warning', which is certain; 'note', a guess; or 'harmless', which changes no link.
+    path: what the report calls the file. segment: the name of the segment that it is in, as 'UTIL',
+    or None. record: the index of the record, or None. text: what is said of it.
     """
 
     weight: str
@@ -268,10 +281,11 @@ class Finding(NamedTuple):
 class Report(NamedTuple):
     """What a check says of files.
 
-    text: the report, for a person. fault: why the files are refused, not raised here, or None. summary: what their linked file would
-    have, or None where they are refused. findings: what else is found, one by one, in the order of its lines. `verdict` is the fault or
-    the summary, `ok` whether the files are linked, and `warnings` and `notes` are the findings of these weights. A report is true where
-    it is ok; two are equal if they hold the same.
+    text: the report, for a person. fault: why the files are refused, not raised here, or None.
+    summary: what their linked file would have, or None where they are refused. findings: what else
+    is found, one by one, in the order of its lines. `verdict` is the fault or the summary, `ok`
+    whether the files are linked, and `warnings` and `notes` are the findings of these weights. A
+    report is true where it is ok; two are equal if they hold the same.
     """
 
     text: str
@@ -304,7 +318,8 @@ class Report(NamedTuple):
 
 
 def _name(eight_bytes):
-    """A name of a code file, without the blanks that fill it. (A byte above 127 is the character of its number.)"""
+    """A name of a code file, without the blanks that fill it. (A byte above 127 is the character of
+    its number.)"""
     return eight_bytes.decode("latin-1").rstrip(" ")
 
 
@@ -320,7 +335,8 @@ def _contents(file):
         return memoryview(file).tobytes()
     except TypeError:
         kind = type(file).__name__
-        raise TypeError(f"a file is bytes, a path, or a pair of a name and one of these, and not {kind}") from None
+        raise TypeError("a file is bytes, a path, or a pair of a name and one of these, and not "
+                        f"{kind}") from None
 
 
 def _opened(file):
@@ -353,11 +369,13 @@ class _Files:
         if _is_one_file(libs):
             raise TypeError(f"the libraries are a list of files, and not one {type(libs).__name__}")
         opened = [_opened(file) for file in (host, *libs)]
-        self.names = [f"file {number}" if name is None else name for number, (name, _) in enumerate(opened)]
+        self.names = [f"file {number}" if name is None else name
+                      for number, (name, _) in enumerate(opened)]
         self.length = sum(len(data) for _, data in opened)
         self._count = len(opened)
         # (a name of a path may be no text)
-        named = [(name.encode("utf-8", "backslashreplace"), data) for name, (_, data) in zip(self.names, opened)]
+        named = [(name.encode("utf-8", "backslashreplace"), data)
+                 for name, (_, data) in zip(self.names, opened)]
         self._array = (_File * self._count)(*((name, data, len(data)) for name, data in named))
 
     def refusal(self, answer):
@@ -377,8 +395,8 @@ class _Files:
         )
 
     def made(self, function, *what, size=_TEXT_GUESS):
-        """What a function of the library puts in a room of so many bytes, or of as many as it then asks for, and its answer. (It asks
-        once.)"""
+        """What a function of the library puts in a room of so many bytes, or of as many as it then
+        asks for, and its answer. (It asks once.)"""
         answer = _Answer(size=size)
         for _ in range(2):
             size = answer.size
@@ -422,7 +440,8 @@ def link_with_summary(host: File, libs: Iterable[File] = ()) -> Tuple[bytes, Sum
 def link(host: File, libs: Iterable[File] = ()) -> bytes:
     """The linked file of a host and of the units that it uses, which the libraries have.
 
-    Of the libraries that have a unit, the first is used. Raises Refused, MemoryError, and OSError for a path that cannot be read.
+    Of the libraries that have a unit, the first is used. Raises Refused, MemoryError, and OSError
+    for a path that cannot be read.
     """
     return link_with_summary(host, libs)[0]
 
@@ -434,8 +453,8 @@ def _finding(item):
 
 
 def check(host: File, libs: Iterable[File] = ()) -> Report:
-    """The report on a host and its libraries: whether they are linked, and what is wrong with them. Raises what `link` raises but
-    Refused."""
+    """The report on a host and its libraries: whether they are linked, and what is wrong with them.
+    Raises what `link` raises but Refused."""
     files = _Files(host, libs)
     lines, answer = files.text(_TEXTS["check"])
     document, _ = files.text(_TEXTS["findings"] | _JSON)
@@ -445,11 +464,13 @@ def check(host: File, libs: Iterable[File] = ()) -> Report:
 
 
 def text(what: Text, host: File, libs: Iterable[File] = (), json: bool = False) -> str:
-    """What the program prints of these files by its command of this name, as lines, or as one JSON document.
+    """What the program prints of these files by its command of this name, as lines, or as one JSON
+    document.
 
-    `references` is a map with what the link stores at each place; `units` is a list and what is wrong with each unit by itself;
-    `findings` is what a check finds, a line for each. Of a `list` and of `units` all files are equal; of a `show` there is
-    one. Raises what `link` raises, Refused for a map, its references and a show alone, and ValueError for what is no such text.
+    `references` is a map with what the link stores at each place; `units` is a list and what is
+    wrong with each unit by itself; `findings` is what a check finds, a line for each. Of a `list`
+    and of `units` all files are equal; of a `show` there is one. Raises what `link` raises, Refused
+    for a map, its references and a show alone, and ValueError for what is no such text.
     """
     if what not in _TEXTS:
         raise ValueError(f"a text is one of {', '.join(_TEXTS)}, and not {what!r}")
@@ -462,7 +483,8 @@ def map(host: File, libs: Iterable[File] = ()) -> str:
 
 
 def show(file: File) -> str:
-    """What a code file has, of any contents, as text. Raises Refused with fault 1 or 2 only; else what `link` raises."""
+    """What a code file has, of any contents, as text. Raises Refused with fault 1 or 2 only; else
+    what `link` raises."""
     return text("show", file)
 
 
