@@ -1,14 +1,14 @@
-"""A case: its files, and what a linker answers to them. What is expected of a link is described (which segments stand
-where, the offset of each private variable); its bytes and its map follow from that and from the descriptions of the files
-(docs/LINKING.md, What a reference becomes, The linked file; docs/OUTPUT.md, Map)."""
+"""A case: its files, and what a linker answers to them. What is expected of a link is described
+(which segments stand where, the offset of each private variable); its bytes and its map follow from
+that and from the descriptions of the files (docs/LINKING.md, What a reference becomes, The linked
+file; docs/OUTPUT.md, Map)."""
 import dataclasses
 import functools
 import itertools
 
-from .model import (
-    BLOCK, CONSTDEF, EOFMARK, LINKED, PRIVREF, PUBLDEF, PUBLREF, REASONS, UNITREF, UNITSEG, File, Segment, changed, code_bytes,
-    laid_out, name_bytes, operands, printed, source_code,
-)
+from .model import (BLOCK, CONSTDEF, EOFMARK, LINKED, PRIVREF, PUBLDEF, PUBLREF, REASONS, UNITREF,
+                    UNITSEG, File, Segment, changed, code_bytes, laid_out, name_bytes, operands,
+                    printed, source_code)
 
 
 @dataclasses.dataclass
@@ -32,7 +32,8 @@ class Fault:
 
     def described(self):
         return {"number": self.number, "name": REASONS[self.number],
-                **{part: value for part, value in dataclasses.asdict(self).items() if part != "number"}}
+                **{part: value for part, value in dataclasses.asdict(
+                       self).items() if part != "number"}}
 
 
 @dataclasses.dataclass
@@ -55,8 +56,8 @@ class Private:
 
 @dataclasses.dataclass
 class Link:
-    """What a link gives: its segments by slot, the private variables by slot and record, the next free base offset and
-    the data size of the outer block."""
+    """What a link gives: its segments by slot, the private variables by slot and record, the next
+    free base offset and the data size of the outer block."""
 
     placed: list
     privates: list
@@ -66,8 +67,8 @@ class Link:
 
 @dataclasses.dataclass
 class Case:
-    """`given` has the numbers of the libraries in the order in which they are given, if that is not each once. `later`
-    is a fault that the files have too, and that is not reported."""
+    """`given` has the numbers of the libraries in the order in which they are given, if that is not
+    each once. `later` is a fault that the files have too, and that is not reported."""
 
     name: str
     about: str
@@ -86,7 +87,8 @@ class Case:
 
     def source(self, placed):
         """The file that a segment comes from; file k is the k-th that is given."""
-        return self.host if placed.file == 0 else self.libraries[self.order_given()[placed.file - 1] - 1]
+        return self.host if placed.file == 0 else self.libraries[
+            self.order_given()[placed.file - 1] - 1]
 
     def segment(self, placed):
         file = self.source(placed)
@@ -108,15 +110,19 @@ class Case:
         return file, laid_out(file)
 
     def definitions(self):
-        read = itertools.takewhile(lambda record: record.type != EOFMARK, self.host_segment().records)
+        read = itertools.takewhile(
+            lambda record: record.type != EOFMARK, self.host_segment().records)
         return [record for record in read if record.type in (PUBLDEF, CONSTDEF)]
 
 
 def value_in(case, slot):
     """The value of each operand of the segment in this slot."""
-    publics = {name_bytes(one.name): one.words[0] for one in case.definitions() if one.type == PUBLDEF}
+    publics = {
+        name_bytes(one.name): one.words[0] for one in case.definitions() if one.type == PUBLDEF}
     privates = {name_bytes(one.name): one.offset for one in case.link.privates if one.slot == slot}
-    units = {name_bytes(case.segment(one).name): one.slot for one in case.link.placed if case.segment(one).kind == UNITSEG}
+    units = {name_bytes(case.segment(one).name): one.slot
+             for one in case.link.placed
+             if case.segment(one).kind == UNITSEG}
     values = {PUBLREF: publics, PRIVREF: privates, UNITREF: units}
     return lambda operand: values[operand.type][name_bytes(operand.name)]
 
@@ -126,13 +132,17 @@ def linked_code(case, placed):
     if segment.kind == LINKED or segment.procedures is None:
         return changed(source_code(file, placed.entry), segment.linked)
     listed = sorted(place for record in segment.records for place in record.references or [])
-    assert listed == [place for place, _ in operands(segment)], f"{case.name}: references of slot {placed.slot}"
+    assert listed == [place for place, _ in operands(
+                          segment)], f"{case.name}: references of slot {placed.slot}"
     data = case.link.data if case.is_host(placed) else None
-    return changed(code_bytes(segment, placed.slot, case.host.order, value_in(case, placed.slot), data), segment.changes)
+    return changed(
+        code_bytes(segment, placed.slot, case.host.order, value_in(case, placed.slot), data),
+        segment.changes)
 
 
 def linked_file(case):
-    """The linked file, as a description: the host's names and tail, every kind and every text address 0."""
+    """The linked file, as a description: the host's names and tail, every kind and every text
+    address 0."""
     slots = {slot: Segment(segment.name, LINKED) for slot, segment in case.host.slots.items()}
     for placed in case.link.placed:
         name = case.segment(placed).name if placed.added else slots[placed.slot].name
@@ -141,7 +151,8 @@ def linked_file(case):
 
 
 def blocks_of(case):
-    """By slot, the first block of each segment of the linked file and its length; and the blocks of the file."""
+    """By slot, the first block of each segment of the linked file and its length; and the blocks of
+    the file."""
     entries, blocks = case.linked[1]
     return entries, 1 + len(blocks) // BLOCK
 
@@ -151,17 +162,20 @@ def words_of(case):
 
 
 def summary(case):
-    return f"segments {len(case.link.placed)} private words {words_of(case)} blocks {blocks_of(case)[1]}"
+    return (f"segments {len(case.link.placed)} private words {words_of(case)} blocks "
+            f"{blocks_of(case)[1]}")
 
 
 def map_of(case):
     entries, blocks = blocks_of(case)
     for one in case.link.placed:
         block, length = entries[one.slot]
-        line = f"segment {one.slot:02} {printed(case.segment(one).name)} file {one.file} entry {one.entry:02}"
+        line = (f"segment {one.slot:02} {printed(case.segment(one).name)} file {one.file} entry "
+                f"{one.entry:02}")
         yield f"{line} block {block} length {length}" + (" added" if one.added else "")
     for record in case.definitions():
-        yield f"{'public' if record.type == PUBLDEF else 'constant'} {printed(record.name)} value {record.words[0]}"
+        yield (f"{'public' if record.type == PUBLDEF else 'constant'} {printed(record.name)} value "
+               f"{record.words[0]}")
     for one in case.link.privates:
         yield f"private {one.slot:02} {printed(one.name)} offset {one.offset} words {one.words}"
     yield f"next {case.link.next} data {case.link.data} blocks {blocks}"
@@ -171,19 +185,16 @@ def described(case):
     """The link, for the index: its names are in hexadecimal."""
     entries, blocks = blocks_of(case)
     return {
-        "segments": [
-            {"slot": one.slot, "name": name_bytes(case.segment(one).name).hex(), "file": one.file, "entry": one.entry,
-             "block": entries[one.slot][0], "length": entries[one.slot][1], "added": one.added}
-            for one in case.link.placed
-        ],
-        "definitions": [
-            {"kind": "public" if one.type == PUBLDEF else "constant", "name": name_bytes(one.name).hex(),
-             "value": one.words[0]}
-            for one in case.definitions()
-        ],
-        "privates": [
-            {"slot": one.slot, "name": name_bytes(one.name).hex(), "offset": one.offset, "words": one.words}
-            for one in case.link.privates
-        ],
-        "private_words": words_of(case), "next": case.link.next, "data": case.link.data, "blocks": blocks,
+        "segments": [{"slot": one.slot, "name": name_bytes(case.segment(one).name).hex(),
+                      "file": one.file, "entry": one.entry, "block": entries[one.slot][0],
+                      "length": entries[one.slot][1], "added": one.added}
+                     for one in case.link.placed],
+        "definitions": [{"kind": "public" if one.type == PUBLDEF else "constant",
+                         "name": name_bytes(one.name).hex(), "value": one.words[0]}
+                        for one in case.definitions()],
+        "privates": [{"slot": one.slot, "name": name_bytes(one.name).hex(), "offset": one.offset,
+                      "words": one.words}
+                     for one in case.link.privates],
+        "private_words": words_of(case), "next": case.link.next, "data": case.link.data,
+        "blocks": blocks,
     }

@@ -1,6 +1,6 @@
-"""How code files and links are described, and how a description becomes the bytes of a file, its show and its map.
-Nothing here reads a code file: what is expected comes from the description alone. docs/FORMAT.md and docs/LINKING.md
-have the rules; the comments name their sections."""
+"""How code files and links are described, and how a description becomes the bytes of a file, its
+show and its map. Nothing here reads a code file: what is expected comes from the description alone.
+docs/FORMAT.md and docs/LINKING.md have the rules; the comments name their sections."""
 import dataclasses
 import functools
 import pathlib
@@ -14,7 +14,9 @@ from make_samples import BLOCK, HOSTSEG, LINKED, UNITSEG, whole
 
 UNUSED = {30}  # faults that no link reports
 # LINKING.md, When each fault occurs: the names of the faults, by their numbers
-REASONS = {int(number): name for number, name in re.findall(r"^\| (\d+) \| ([A-Z]\w+) \|", (ROOT / "docs/LINKING.md").read_text(), re.M)
+REASONS = {int(number): name
+           for number, name in re.findall(
+                   r"^\| (\d+) \| ([A-Z]\w+) \|", (ROOT / "docs/LINKING.md").read_text(), re.M)
            if int(number) not in UNUSED}
 EOFMARK, UNITREF, PUBLREF, PRIVREF, PUBLDEF, CONSTDEF = 0, 1, 3, 4, 7, 8
 SHOWN = {EOFMARK: "EOFMARK", UNITREF: "UNITREF", PUBLREF: "PUBLREF", PRIVREF: "PRIVREF",
@@ -34,13 +36,14 @@ def printed(name):
     return "".join(chr(byte) if 32 <= byte <= 126 else "?" for byte in name_bytes(name))
 
 
-# Code (FORMAT.md, The code of a slot) ---------------------------------------------------------------------------------
+# Code (FORMAT.md, The code of a slot) -------------------------------------------------------------
 
 
 @dataclasses.dataclass
 class Operand:
-    """An operand that the link fills in: the type of the record that refers to it, the record's name, and what it
-    holds before: a displacement, or the byte of a UNITREF. `mark` is bit 7 of a BIG operand before the link."""
+    """An operand that the link fills in: the type of the record that refers to it, the record's
+    name, and what it holds before: a displacement, or the byte of a UNITREF. `mark` is bit 7 of a
+    BIG operand before the link."""
 
     type: int
     name: object
@@ -51,10 +54,12 @@ class Operand:
         return 1 if self.type == UNITREF else 2
 
     def before(self):
-        return bytes([self.old]) if self.type == UNITREF else bytes([self.mark + self.old // 256, self.old % 256])
+        return bytes([self.old]) if self.type == UNITREF else bytes(
+            [self.mark + self.old // 256, self.old % 256])
 
     def after(self, value):
-        """LINKING.md, What a reference becomes: the slot's number, or the displacement plus the value."""
+        """LINKING.md, What a reference becomes: the slot's number, or the displacement plus the
+        value."""
         if self.type == UNITREF:
             return bytes([value])
         operand = self.old + value
@@ -64,9 +69,10 @@ class Operand:
 
 @dataclasses.dataclass
 class Procedure:
-    """Its instructions, as bytes, as text in hexadecimal and as operands; sizes in bytes. `at` is the offset of its
-    attribute table where another procedure has the table, or 0 for no body. `said` is the number that its table has, if
-    that is not its own. `pad` is the bytes between instructions and table, if they are not what makes its offset even."""
+    """Its instructions, as bytes, as text in hexadecimal and as operands; sizes in bytes. `at` is
+    the offset of its attribute table where another procedure has the table, or 0 for no body.
+    `said` is the number that its table has, if that is not its own. `pad` is the bytes between
+    instructions and table, if they are not what makes its offset even."""
 
     parts: list
     number: int = 1
@@ -105,12 +111,13 @@ def operands(segment):
 
 def places(segment, type, name):
     """The offsets of the operands of one name, ascending."""
-    return [place for place, operand in operands(segment) if (operand.type, operand.name) == (type, name)]
+    return [place for place, operand in operands(segment) if (operand.type, operand.name) == (
+                type, name)]
 
 
 def code_bytes(segment, number, order, value=None, data=None):
-    """The code with this segment number: as a compiler writes it or, with the value of each operand and the data size
-    of procedure 1, as it is linked."""
+    """The code with this segment number: as a compiler writes it or, with the value of each operand
+    and the data size of procedure 1, as it is linked."""
 
     def word(content):
         return content.to_bytes(2, order)
@@ -127,23 +134,26 @@ def code_bytes(segment, number, order, value=None, data=None):
         tables[procedure.number] = procedure.at
         if procedure.at is None:
             size = procedure.data if data is None or procedure.number != 1 else data
-            # enter IC and exit IC are self-relative; the exit is the last two bytes of the instructions
-            code += word(size) + word(procedure.parameters) + word(6 + pad) + word(len(code) + 6 - start)
+            # enter IC and exit IC are self-relative; the exit is the last two bytes of the
+            # instructions
+            code += word(size) + word(procedure.parameters) + word(6 + pad) + word(
+                len(code) + 6 - start)
             tables[procedure.number] = len(code)
-            code += bytes([procedure.number if procedure.said is None else procedure.said, procedure.level])
+            code += bytes(
+                [procedure.number if procedure.said is None else procedure.said, procedure.level])
     count = max(tables, default=0)
     for number_of in range(count, 0, -1):
         code += word(len(code) - tables[number_of] if tables.get(number_of) else 0)
     return bytes(code) + bytes([number, count])
 
 
-# Link information (FORMAT.md, Link information) -----------------------------------------------------------------------
+# Link information (FORMAT.md, Link information) ---------------------------------------------------
 
 
 @dataclasses.dataclass
 class Record:
-    """A record, its words after the type, and the list after it. `fault` is the fault of a record that is refused;
-    `rest` fills the last piece of the list."""
+    """A record, its words after the type, and the list after it. `fault` is the fault of a record
+    that is refused; `rest` fills the last piece of the list."""
 
     name: object
     type: int
@@ -157,7 +167,8 @@ class Record:
         mark = "<" if order == "little" else ">"
         listed = struct.pack(f"{mark}{len(references)}H", *references)
         words = [self.type, *self.words, 0, 0, 0][:4]
-        return struct.pack(f"{mark}8s4H", name_bytes(self.name), *words) + listed + (self.rest * 16)[: -len(listed) % 16]
+        return struct.pack(f"{mark}8s4H", name_bytes(self.name), *words) + listed + (
+            self.rest * 16)[: -len(listed) % 16]
 
 
 def unit_ref(name, references):
@@ -184,15 +195,17 @@ def eof_mark(next_free, name=""):
     return Record(name, EOFMARK, [next_free])
 
 
-# Code files (FORMAT.md, The segment dictionary) -----------------------------------------------------------------------
+# Code files (FORMAT.md, The segment dictionary) ---------------------------------------------------
 
 
 @dataclasses.dataclass
 class Segment:
-    """A slot of a file. It has its procedures, or a code as bytes, or none. `shares` is the slot whose code and records
-    it has; `inside` is the slot in whose code it lies, and from which of its blocks on. `before` is how many blocks of zeros
-    come before its code. `address` and `length` are what the dictionary says, if that is not where its code is. `changes` are bytes of its code, by offset, that its procedures do not
-    have; `linked` are bytes that the link gives to a code without procedures. `fault` is the fault of a code that is refused."""
+    """A slot of a file. It has its procedures, or a code as bytes, or none. `shares` is the slot
+    whose code and records it has; `inside` is the slot in whose code it lies, and from which of its
+    blocks on. `before` is how many blocks of zeros come before its code. `address` and `length` are
+    what the dictionary says, if that is not where its code is. `changes` are bytes of its code, by
+    offset, that its procedures do not have; `linked` are bytes that the link gives to a code
+    without procedures. `fault` is the fault of a code that is refused."""
 
     name: object
     kind: int = UNITSEG
@@ -212,15 +225,17 @@ class Segment:
 
     def has_blocks(self):
         """Its code and its records have blocks of their own in the file."""
-        return self.shares is None and self.inside is None and (self.procedures is not None or self.code is not None)
+        return self.shares is None and self.inside is None and (
+            self.procedures is not None or self.code is not None)
 
 
 @dataclasses.dataclass
 class File:
-    """A code file. `tail` has bytes of the dictionary's second half; `cut` is the length of a file that is cut there;
-    `changes` are bytes of the file, by offset. `refused` is the fault for which show refuses it. `stops` has, by slot,
-    how many records are left of it and the fault that show prints after them, or None and the fault of the code. `last` is the slot
-    whose code is the last in the file, if that is not the highest."""
+    """A code file. `tail` has bytes of the dictionary's second half; `cut` is the length of a file
+    that is cut there; `changes` are bytes of the file, by offset. `refused` is the fault for which
+    show refuses it. `stops` has, by slot, how many records are left of it and the fault that show
+    prints after them, or None and the fault of the code. `last` is the slot whose code is the last
+    in the file, if that is not the highest."""
 
     slots: dict
     order: str = "little"
@@ -255,7 +270,8 @@ def changed(content, changes):
 
 
 def laid_out(file):
-    """The address and the length of each slot, as the dictionary says them, and the blocks after it."""
+    """The address and the length of each slot, as the dictionary says them, and the blocks after
+    it."""
     entries, blocks = {}, b""
     for slot, segment in sorted(file.slots.items(), key=lambda one: (one[0] == file.last, one[0])):
         address = length = 0
@@ -263,7 +279,8 @@ def laid_out(file):
             code = source_code(file, slot)
             blocks += bytes(BLOCK * segment.before)
             address, length = 1 + len(blocks) // BLOCK, len(code)
-            blocks += whole(code, BLOCK) + whole(b"".join(one.encoded(file.order) for one in segment.records), BLOCK)
+            blocks += whole(code, BLOCK) + whole(
+                b"".join(one.encoded(file.order) for one in segment.records), BLOCK)
         entries[slot] = [address, length]
     for slot, segment in file.slots.items():
         if segment.shares is not None:
@@ -287,7 +304,8 @@ def dictionary_bytes(entries, names, kinds, texts, order, tail):
 
     pairs = words(value for slot in range(16) for value in entries.get(slot, (0, 0)))
     block = pairs + b"".join(name_bytes(names.get(slot, "")) for slot in range(16))
-    block += words(kinds.get(slot, 0) for slot in range(16)) + words(texts.get(slot, 0) for slot in range(16))
+    block += words(kinds.get(slot, 0) for slot in range(16)) + words(
+        texts.get(slot, 0) for slot in range(16))
     block = bytearray(whole(block, BLOCK))
     for place, byte in tail.items():
         block[place] = byte
@@ -297,10 +315,10 @@ def dictionary_bytes(entries, names, kinds, texts, order, tail):
 def file_bytes(file, laid):
     """The bytes of a file, of which `laid_out` says this."""
     entries, blocks = laid
-    names, kinds, texts = (
-        {slot: getattr(segment, part) for slot, segment in file.slots.items()} for part in ("name", "kind", "text")
-    )
-    encoded = dictionary_bytes(entries, names, kinds, texts, file.order, file.tail) + blocks + file.more
+    names, kinds, texts = ({slot: getattr(segment, part) for slot, segment in file.slots.items()}
+                           for part in ("name", "kind", "text"))
+    encoded = dictionary_bytes(
+        entries, names, kinds, texts, file.order, file.tail) + blocks + file.more
     return changed(encoded, file.changes)[: file.cut]
 
 
@@ -315,11 +333,12 @@ def is_filled(segment, entry):
     return length > 0 and not (segment.kind == UNITSEG and address == 0)
 
 
-# Show (OUTPUT.md, Show) -----------------------------------------------------------------------------------------------
+# Show (OUTPUT.md, Show) ---------------------------------------------------------------------------
 
 
 def record_line(record, units):
-    """The line of a record that can be read; `units` are the names that slots of the file have or want."""
+    """The line of a record that can be read; `units` are the names that slots of the file have or
+    want."""
     line = f"{SHOWN[record.type]} {printed(record.name)}"
     if record.type == EOFMARK:
         return f"EOFMARK next {record.words[0]}"
@@ -353,11 +372,13 @@ def link_lines(file, slot, units):
 
 
 def slot_line(slot, name, kind, address, length, text):
-    return f"slot {slot:02} {printed(name)} kind {kind} address {address} length {length} text {text}"
+    return (f"slot {slot:02} {printed(name)} kind {kind} address {address} length {length} text "
+            f"{text}")
 
 
 def show_of(file, laid):
-    """The lines of the show of a file that show does not refuse, and of which `laid_out` says this."""
+    """The lines of the show of a file that show does not refuse, and of which `laid_out` says
+    this."""
     entries, _ = laid
     unknown = file.is_unknown()
     # words of a file of unknown order are shown as little-endian
@@ -365,8 +386,12 @@ def show_of(file, laid):
     yield "order unknown" if unknown else f"order {file.order}"
     for slot in range(16):
         segment = file.slots.get(slot, Segment("", LINKED))
-        yield slot_line(slot, segment.name, segment.kind, *map(seen, (*entries.get(slot, (0, 0)), segment.text)))
-    units = {name_bytes(segment.name) for slot, segment in file.slots.items() if segment.kind == UNITSEG
+        yield slot_line(
+            slot, segment.name, segment.kind,
+            *map(seen, (*entries.get(slot, (0, 0)), segment.text)))
+    units = {name_bytes(segment.name)
+             for slot, segment in file.slots.items()
+             if segment.kind == UNITSEG
              and (is_filled(segment, entries[slot]) or name_bytes(segment.name) not in BLANK)}
     for slot, segment in sorted(file.slots.items()):
         if segment.kind in (HOSTSEG, UNITSEG) and is_filled(segment, entries[slot]):

@@ -1,6 +1,6 @@
-"""Sets of files with two faults each. The first of a pair is reported, because it comes first in the order of faults
-(docs/LINKING.md, The order of faults); each of the two changes is in faults.py, and with that change alone the files have
-that fault alone."""
+"""Sets of files with two faults each. The first of a pair is reported, because it comes first in
+the order of faults (docs/LINKING.md, The order of faults); each of the two changes is in faults.py,
+and with that change alone the files have that fault alone."""
 from .cases import Case
 from .faults import CHANGES, files
 
@@ -92,4 +92,6 @@ def cases():
             second.change(given)
             reported.change(given)
             about = f"{reported.about} {second.about}"
-            yield Case(f"pairs/{first}-before-{later}", about, given.host, given.libraries(), reported.fault, second.fault)
+            yield Case(
+                f"pairs/{first}-before-{later}", about, given.host, given.libraries(),
+                reported.fault, second.fault)
