@@ -1,8 +1,10 @@
 #!/usr/bin/env python3
-"""Writes the cases and their index from the descriptions in the folder descriptions. What is expected is described there,
-and no linker is run. Usage: make_vectors.py [--cases PATTERN].. [FOLDER], with --cases for the cases of these names alone, or
-make_vectors.py --large FOLDER for the cases of megabytes, with the script 'run' beside them. Without FOLDER it writes to the folder of
-this script. Cases that are there already, and no older than the descriptions, are copied to another folder, and not made again."""
+"""Writes the cases and their index from the descriptions in the folder descriptions. What is
+expected is described there, and no linker is run. Usage: make_vectors.py [--cases PATTERN]..
+[FOLDER], with --cases for the cases of these names alone, or make_vectors.py --large FOLDER for the
+cases of megabytes, with the script 'run' beside them. Without FOLDER it writes to the folder of
+this script. Cases that are there already, and no older than the descriptions, are copied to another
+folder, and not made again."""
 import argparse
 import fnmatch
 import hashlib
@@ -12,7 +14,8 @@ import shutil
 import sys
 
 sys.dont_write_bytecode = True
-from descriptions import codes, dictionaries, everywhere, faults, large, limits, links, names, orders, pairs, places, records, requests, turned, varied
+from descriptions import (codes, dictionaries, everywhere, faults, large, limits, links, names,
+                          orders, pairs, places, records, requests, turned, varied)
 from descriptions.cases import described, map_of, summary
 from descriptions.model import REASONS, file_bytes, laid_out, show_of
 
@@ -66,23 +69,28 @@ class Folder:
         if file.refused:
             line = f"pslink: refused {file.refused} {REASONS[file.refused]} file 0\n"
             return {"status": 1, "stdout": None, "stderr": line}
-        return {"status": 0, "stdout": self.write(f"{stem}.show", text(show_of(file, laid))), "stderr": ""}
+        return {"status": 0, "stdout": self.write(f"{stem}.show", text(show_of(file, laid))),
+                "stderr": ""}
 
     def digest(self):
         """The SHA-256 of all files of the case, one after another by name."""
-        return hashlib.sha256(b"".join(content for _, content in sorted(self.files.items()))).hexdigest()
+        return hashlib.sha256(b"".join(content for _, content in sorted(
+            self.files.items()))).hexdigest()
 
 
 def written(top, case):
     """Writes the files of a case, and gives its entry of the index."""
     folder = Folder(top / "cases" / case.name)
     stems = ["host", *(f"library-{k}" for k in range(1, len(case.libraries) + 1))]
-    shows = {f"{stem}.code": folder.write_file(stem, file, laid_out(file)) for stem, file in zip(stems, case.files())}
+    shows = {f"{stem}.code": folder.write_file(stem, file, laid_out(file))
+             for stem, file in zip(stems, case.files())}
     entry = {
         "name": case.name, "about": case.about, "folder": f"cases/{case.name}",
         "host": "host.code", "libraries": [f"library-{k}.code" for k in case.order_given()],
-        "status": 1 if case.fault else 0, "stdout": "", "stderr": "", "linked": None, "map": None, "shows": shows,
-        "fault": case.fault and case.fault.described(), "later": case.later and case.later.described(), "link": None,
+        "status": 1 if case.fault else 0, "stdout": "", "stderr": "", "linked": None, "map": None,
+        "shows": shows,
+        "fault": case.fault and case.fault.described(),
+        "later": case.later and case.later.described(), "link": None,
     }
     if case.fault:
         entry["stderr"] = f"pslink: {case.fault.line()}\n"
@@ -97,19 +105,23 @@ def written(top, case):
 def index_text(entries):
     """The index, with one line for each field of a case."""
     cases = ",\n".join(
-        "{\n" + ",\n".join(f' "{field}": {json.dumps(value)}' for field, value in entry.items()) + "\n}" for entry in entries
-    )
+        "{\n" + ",\n".join(
+            f' "{field}": {json.dumps(value)}' for field, value in entry.items()) + "\n}"
+        for entry in entries)
     return f'{{"format": {FORMAT}, "version": {VERSION}, "cases": [\n{cases}\n]}}\n'
 
 
 def is_new():
     """The index is there beside this script, and the descriptions are no newer."""
-    index, sources = HERE / "index.json", [HERE / "make_vectors.py", *(HERE / "descriptions").glob("*.py")]
-    return index.exists() and all(source.stat().st_mtime <= index.stat().st_mtime for source in sources)
+    index, sources = HERE / "index.json", [HERE / "make_vectors.py",
+                                           *(HERE / "descriptions").glob("*.py")]
+    return index.exists() and all(
+        source.stat().st_mtime <= index.stat().st_mtime for source in sources)
 
 
 def copied(top, entry):
-    """Copies the files of a case that is there beside this script; whether they are those of its entry."""
+    """Copies the files of a case that is there beside this script; whether they are those of its
+    entry."""
     path, folder = HERE / entry["folder"], Folder(top / entry["folder"])
     for file in path.iterdir() if path.is_dir() else ():
         folder.write(file.name, file.read_bytes())
@@ -117,10 +129,13 @@ def copied(top, entry):
 
 
 def are_copied(top, patterns):
-    """Copies the cases of these names that are beside this script, if they are those of the descriptions."""
+    """Copies the cases of these names that are beside this script, if they are those of the
+    descriptions."""
     if top.resolve() == HERE or not is_new():
         return False
-    entries = [entry for entry in json.loads((HERE / "index.json").read_text())["cases"] if is_named(entry["name"], patterns)]
+    entries = [entry
+               for entry in json.loads((HERE / "index.json").read_text())["cases"]
+               if is_named(entry["name"], patterns)]
     if not all(copied(top, entry) for entry in entries):
         shutil.rmtree(top / "cases")
         return False
@@ -133,7 +148,8 @@ def is_named(name, patterns):
 
 
 def write(top, cases=None, patterns=("*",)):
-    """Writes the index and these cases, or those of these names. A folder of cases without an index is not one that this script made."""
+    """Writes the index and these cases, or those of these names. A folder of cases without an index
+    is not one that this script made."""
     if (top / "cases").exists():
         if not (top / "index.json").exists():
             sys.exit(f"make_vectors.py: {top} has a folder 'cases' and no index.json")
@@ -156,7 +172,9 @@ def write_large(folder):
 def main():
     parser = argparse.ArgumentParser(prog="make_vectors.py", description=__doc__)
     parser.add_argument("--large", action="store_true", help="write the cases of megabytes")
-    parser.add_argument("--cases", metavar="PATTERN", action="append", help="write the cases of these names alone, as 'faults/*'")
+    parser.add_argument(
+        "--cases", metavar="PATTERN", action="append",
+        help="write the cases of these names alone, as 'faults/*'")
     parser.add_argument("folder", metavar="FOLDER", nargs="?", type=pathlib.Path)
     given = parser.parse_args()
     if not given.folder and (given.large or given.cases):

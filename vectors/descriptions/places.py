@@ -1,29 +1,30 @@
-"""Each fault at each place: in the host program, in a unit of the host, in a plain segment, and in a wanted and an added unit of the
-first, the second and a later library; by each kind of record that refers; in both byte orders. The fault is the same at each place,
-but for its file, its slot and the index of its record: the rules of docs/LINKING.md are those of all segments to be linked.
+"""Each fault at each place: in the host program, in a unit of the host, in a plain segment, and in
+a wanted and an added unit of the first, the second and a later library; by each kind of record that
+refers; in both byte orders. The fault is the same at each place, but for its file, its slot and the
+index of its record: the rules of docs/LINKING.md are those of all segments to be linked.
 
-A *rule* below is a change of the segment that is tried, and the parts of the fault after its slot. A rule stands at every place in
-both orders, or at every place in one of them (SPREAD): for each two of place, kind and order there is a case then too."""
+A *rule* below is a change of the segment that is tried, and the parts of the fault after its slot.
+A rule stands at every place in both orders, or at every place in one of them (SPREAD): for each two
+of place, kind and order there is a case then too."""
 import dataclasses
 
 from .cases import Case, Fault
 from .links import ORDERS
-from .model import (
-    CONSTDEF, HOSTSEG, LINKED, PRIVREF, PUBLREF, UNITREF, UNITSEG, File, Operand, Procedure, Record, Segment, const_def, eof_mark,
-    priv_ref, publ_def, publ_ref, unit_ref,
-)
-from .tried import FORMATS, KINDS, LIBRARIES, LINKED_PLACES, PLAIN, PROGRAM, UNITS, WIDE, Files, Place, small
+from .model import (HOSTSEG, LINKED, PRIVREF, UNITREF, UNITSEG, File, Operand, Procedure, Record,
+                    Segment, const_def, eof_mark, priv_ref, publ_def, publ_ref, unit_ref)
+from .tried import (FORMATS, KINDS, LIBRARIES, LINKED_PLACES, PLAIN, PROGRAM, UNITS, WIDE, Files,
+                    Place, small)
 from .turns import spots_of, turn_of
 
-# The rules ------------------------------------------------------------------------------------------------------------
+# The rules ----------------------------------------------------------------------------------------
 
 RULES = {}
 
 
 @dataclasses.dataclass
 class Rule:
-    """`change` takes the files, and the kind of a record if the rule is one of several kinds; what it gives is the record and the
-    reference of the fault."""
+    """`change` takes the files, and the kind of a record if the rule is one of several kinds; what
+    it gives is the record and the reference of the fault."""
 
     name: str
     about: str
@@ -40,7 +41,8 @@ class Rule:
         for p, place in enumerate(self.places):
             for k, kind in enumerate(self.kinds or (None,)):
                 for o, order in enumerate(ORDERS):
-                    is_single = not place.library and not self.kinds  # (one of its role, with both orders)
+                    # (one of its role, with both orders)
+                    is_single = not place.library and not self.kinds
                     if not self.spread or is_single or (p + k) % 2 == o:
                         yield self.case(place, kind, order, turn_of(self.name, number))
                         number += 1
@@ -52,7 +54,9 @@ class Rule:
         name = "-".join([self.name, *([kind] if kind else []), str(place), order, "endian"])
         # {kind} and {it} stand for the record's kind and for the segment
         about = self.about.format(kind=(kind or "").upper(), it=place.about())
-        return Case(named.format(name), about[0].upper() + about[1:], files.host, files.libraries, fault=fault, given=files.given)
+        return Case(
+            named.format(name), about[0].upper() + about[1:], files.host, files.libraries,
+            fault=fault, given=files.given)
 
 
 def rule(name, about, kinds=(), places=None, spread=True):
@@ -60,7 +64,8 @@ def rule(name, about, kinds=(), places=None, spread=True):
 
     def add(change):
         assert name not in RULES, name
-        RULES[name] = Rule(name, about, change, tuple(kinds), LINKED_PLACES if places is None else places, spread)
+        RULES[name] = Rule(
+            name, about, change, tuple(kinds), LINKED_PLACES if places is None else places, spread)
         return change
 
     return add
@@ -80,11 +85,13 @@ def setting(**values):
 
 EVERY = [*LINKED_PLACES, PLAIN]
 rule("11-long", "The code of {it} has 32768 bytes.", places=EVERY)(setting(length=32768, fault=11))
-rule("11-odd", "The code of {it} has an odd length.")(lambda files: setting(length=files.spots.length - 1, fault=11)(files))
+rule("11-odd", "The code of {it} has an odd length.")(lambda files: setting(
+    length=files.spots.length - 1, fault=11)(files))
 rule("11-short", "The code of {it} has 2 bytes.")(setting(length=2, fault=11))
 rule("12", "The code of {it} has address 0.", places=[PROGRAM, PLAIN])(setting(address=0, fault=12))
-rule("16-address", "The code of {it} would start in block 32769, past the end of the file.", places=EVERY)(
-    setting(address=32769, fault=16))
+rule(
+    "16-address", "The code of {it} would start in block 32769, past the end of the file.",
+    places=EVERY)(setting(address=32769, fault=16))
 
 
 @rule("16-cut", "The file ends one byte before the end of the code of {it}.", places=EVERY)
@@ -92,12 +99,17 @@ def cut_in_the_code(files):
     files.cut(1, None, 16)
 
 
-rule("17-count", "The procedure dictionary of {it} is longer than its code: it has 255 procedures.")(lambda files: setting(changes={files.spots.length - 1: "FF"})(files))
-rule("18", "The first procedure of {it} is native.")(lambda files: setting(changes={files.spots.table: "00"})(files))
+rule(
+    "17-count",
+    "The procedure dictionary of {it} is longer than its code: it has 255 procedures.",
+)(lambda files: setting(changes={files.spots.length - 1: "FF"})(files))
+rule("18", "The first procedure of {it} is native.")(lambda files: setting(changes={
+    files.spots.table: "00"})(files))
 
 
 def leading(procedure, table):
-    """The dictionary's word of this procedure leads to an offset, which `table` gives for the offsets of the code."""
+    """The dictionary's word of this procedure leads to an offset, which `table` gives for the
+    offsets of the code."""
 
     def change(files):
         files.segment.changes = files.pointer(procedure, table(files.spots))
@@ -105,23 +117,32 @@ def leading(procedure, table):
     return change
 
 
-for name, table, where in [("before", lambda spots: -1, "before the code"), ("seven", lambda spots: 7, "at byte 7"),
-                           ("inside", lambda spots: spots.dictionary - 1, "at the last byte before the dictionary, so its level is in that"),
+for name, table, where in [("before", lambda spots: -1, "before the code"),
+                           ("seven", lambda spots: 7, "at byte 7"),
+                           ("inside", lambda spots: spots.dictionary - 1,
+                            "at the last byte before the dictionary, so its level is in that"),
                            ("dictionary", lambda spots: spots.dictionary, "in the dictionary")]:
     for procedure, which in [(1, ""), (2, "-second")]:
         if name in ("seven", "inside") or procedure == 1:
-            rule(f"17-{name}{which}", f"The table of procedure {procedure} of {{it}} is {where}.")(leading(procedure, table))
+            rule(f"17-{name}{which}", f"The table of procedure {procedure} of {{it}} is {where}.")(
+                leading(procedure, table))
 # (the lex level of procedure 1 is 0)
 rule("18-second", "Procedure 2 of {it} is native.")(leading(2, lambda spots: spots.table + 1))
-rule("17-no-outer-block", "{it} has no procedure 1.", places=[PROGRAM])(leading(1, lambda spots: spots.length - 4))
+rule("17-no-outer-block", "{it} has no procedure 1.", places=[PROGRAM])(leading(
+    1, lambda spots: spots.length - 4))
 
 
-@rule("17-by-two", "The dictionary of {it} would begin two bytes before its code of four.", places=LINKED_PLACES[1:])
+@rule(
+    "17-by-two", "The dictionary of {it} would begin two bytes before its code of four.",
+    places=LINKED_PLACES[1:])
 def dictionary_of_two(files):
-    files.segment.procedures, files.segment.code, files.segment.records = None, bytes.fromhex("00 00 63 02"), [eof_mark(0)]
+    files.segment.procedures, files.segment.code, files.segment.records = None, bytes.fromhex(
+        "00 00 63 02"), [eof_mark(0)]
 
 
-@rule("17-before-20", "The table of procedure 1 of {it} is at byte 7, and its first record has type 15.")
+@rule(
+    "17-before-20",
+    "The table of procedure 1 of {it} is at byte 7, and its first record has type 15.")
 def before_the_records(files):
     leading(1, lambda spots: 7)(files)
     files.segment.records[0].type, files.segment.records[0].fault = 15, 20
@@ -200,23 +221,26 @@ def cut_in_a_list(files, kind):
 
 
 def typed(number, types):
-    """The record after the PUBLREF has one of these types, another at each place. Where a format would be it has 0, and where the
-    number of references would be 65535."""
+    """The record after the PUBLREF has one of these types, another at each place. Where a format
+    would be it has 0, and where the number of references would be 65535."""
 
     def change(files):
         index, record = files.record("privref")
         record.words = [0, 65535, 0]
-        record.type, record.fault = types[(2 * LINKED_PLACES.index(files.place) + ORDERS.index(files.order)) % len(types)], number
+        record.type, record.fault = types[
+            (2 * LINKED_PLACES.index(files.place) + ORDERS.index(files.order)) % len(types)], number
         return [index]
 
     return change
 
 
 rule("20", "A record of {it} has type 15.")(typed(20, [15]))
-rule("20-high", "A record of {it} has a type whose low byte is that of a definition.")(typed(20, [264, 263, 65288]))
+rule("20-high", "A record of {it} has a type whose low byte is that of a definition.")(
+    typed(20, [264, 263, 65288]))
 rule("20-highest", "A record of {it} has a type above 32767.")(typed(20, [32771, 32775]))
 rule("21", "A record of {it} has a type of native code.")(typed(21, [2, 5, 6, 9, 10]))
-rule("22", "A record of {it} has a type of separate procedures.", spread=False)(typed(22, [14, 11, 12, 13]))
+rule("22", "A record of {it} has a type of separate procedures.", spread=False)(
+    typed(22, [14, 11, 12, 13]))
 
 
 def formatted(number, format, count=None):
@@ -231,13 +255,19 @@ def formatted(number, format, count=None):
 
 
 # (a format is checked before its list)
-rule("21-format", "A {kind} of {it} has format 0, of native code, and 65535 references.", KINDS)(formatted(21, lambda right: 0, 65535))
-rule("21-empty", "A {kind} of {it} has format 0, of native code, and no reference.", KINDS)(formatted(21, lambda right: 0, 0))
-rule("23", "A {kind} of {it} has the format of another kind.", KINDS, spread=False)(formatted(23, lambda right: 3 - right))
-rule("23-high", "A {kind} of {it} has a format whose low byte is right, and 65535 references.", KINDS)(
-    formatted(23, lambda right: 256 + right, 65535))
-rule("23-highest", "A {kind} of {it} has a format whose low fifteen bits are right.", KINDS)(formatted(23, lambda right: 32768 + right))
-rule("23-empty", "A {kind} of {it} has format 256 and no reference.", KINDS)(formatted(23, lambda right: 256, 0))
+rule("21-format", "A {kind} of {it} has format 0, of native code, and 65535 references.", KINDS)(
+    formatted(21, lambda right: 0, 65535))
+rule("21-empty", "A {kind} of {it} has format 0, of native code, and no reference.", KINDS)(
+    formatted(21, lambda right: 0, 0))
+rule("23", "A {kind} of {it} has the format of another kind.", KINDS, spread=False)(formatted(
+    23, lambda right: 3 - right))
+rule(
+    "23-high", "A {kind} of {it} has a format whose low byte is right, and 65535 references.",
+    KINDS)(formatted(23, lambda right: 256 + right, 65535))
+rule("23-highest", "A {kind} of {it} has a format whose low fifteen bits are right.", KINDS)(
+    formatted(23, lambda right: 32768 + right))
+rule("23-empty", "A {kind} of {it} has format 256 and no reference.", KINDS)(formatted(
+    23, lambda right: 256, 0))
 
 
 # units that are requested
@@ -274,7 +304,9 @@ def with_library(files, segment):
     slots[next(slot for slot in range(16) if slot not in slots)] = segment
 
 
-@rule("13-blank-there", "A UNITREF of {it} has a blank name, which a unit of a library has.", spread=False)
+@rule(
+    "13-blank-there", "A UNITREF of {it} has a blank name, which a unit of a library has.",
+    spread=False)
 def blank_there(files):
     with_library(files, small(blank_of(files)))
     return [files.append(unit_ref(blank_of(files), []))]
@@ -320,7 +352,9 @@ def doubled_and_large(files):
     return [files.append(priv_ref(files.turn.private, 32767, []))]
 
 
-@rule("26", "The private variable of {it} has so many words that the next offset would be 32768.", spread=False)
+@rule(
+    "26", "The private variable of {it} has so many words that the next offset would be 32768.",
+    spread=False)
 def large_private(files):
     index, record = files.record("privref")
     record.words[2] = 32768 - files.offset()
@@ -333,11 +367,15 @@ def private_after_all(files):
     return [files.append(priv_ref("LAST", 1, []))]
 
 
-@rule("26-none", "The end mark of the program is 32768, and {it} has a private variable of 0 words.")
+@rule(
+    "26-none", "The end mark of the program is 32768, and {it} has a private variable of 0 words.")
 def private_of_no_words(files):
     program = next(one for one in files.host.slots.values() if one.kind == HOSTSEG)
     program.records[-1].words = [32768]
-    index, record = next((index, record) for index, record in enumerate(files.segment.records) if record.type == PRIVREF)
+    index, record = next(
+        (index, record)
+        for index, record in enumerate(files.segment.records)
+        if record.type == PRIVREF)
     record.words[2] = 0
     return [index]
 
@@ -354,7 +392,8 @@ def named(which):
 
 
 def named_last(which, *makers):
-    """A PUBLREF of this name of the case and without references, after records that these make of the name."""
+    """A PUBLREF of this name of the case and without references, after records that these make of
+    the name."""
 
     def change(files):
         name = getattr(files.turn, which)
@@ -366,17 +405,29 @@ def named_last(which, *makers):
 
 
 rule("28", "A PUBLREF of {it} has a name without a definition.", spread=False)(named("missing"))
-rule("28-empty", "A PUBLREF of {it} has a name without a definition, and no reference.")(named_last("missing"))
-rule("28-private", "A PUBLREF of {it} has the name of its own private variable.")(named_last("private"))
+rule("28-empty", "A PUBLREF of {it} has a name without a definition, and no reference.")(named_last(
+    "missing"))
+rule("28-private", "A PUBLREF of {it} has the name of its own private variable.")(named_last(
+    "private"))
 rule("29", "A PUBLREF of {it} has the name of a constant.", spread=False)(named("constant"))
-rule("29-empty", "A PUBLREF of {it} has the name of a constant, and no reference.")(named_last("constant"))
+rule("29-empty", "A PUBLREF of {it} has the name of a constant, and no reference.")(named_last(
+    "constant"))
 OTHERS = LINKED_PLACES[1:]
-rule("28-own", "A PUBLREF of {it} has a name that only its own PUBLDEF defines.", places=OTHERS, spread=False)(named_last("missing", publ_def))
-rule("28-own-constant", "A PUBLREF of {it} has a name that only its own CONSTDEF defines.", places=OTHERS)(named_last("missing", const_def))
-rule("29-own", "A PUBLREF of {it} has the name of a constant, which its own PUBLDEF has too.", places=OTHERS)(named_last("constant", publ_def))
+rule(
+    "28-own", "A PUBLREF of {it} has a name that only its own PUBLDEF defines.", places=OTHERS,
+    spread=False)(named_last("missing", publ_def))
+rule(
+    "28-own-constant", "A PUBLREF of {it} has a name that only its own CONSTDEF defines.",
+    places=OTHERS)(named_last("missing", const_def))
+rule(
+    "29-own", "A PUBLREF of {it} has the name of a constant, which its own PUBLDEF has too.",
+    places=OTHERS)(named_last("constant", publ_def))
 
 
-@rule("28-own-used", "A PUBLREF of {it} with references has a name that only its own PUBLDEF defines.", places=OTHERS)
+@rule(
+    "28-own-used",
+    "A PUBLREF of {it} with references has a name that only its own PUBLDEF defines.",
+    places=OTHERS)
 def defined_by_itself(files):
     files.append(publ_def(files.turn.missing, 3))
     return named("missing")(files)
@@ -386,23 +437,31 @@ def defined_by_itself(files):
 
 
 def referring(wide, narrow):
-    """The reference of a kind's record is what the first gives for the offsets of the code, and that of a UNITREF what the second gives."""
-    return lambda files, kind: files.refer(kind, (narrow if kind == "unitref" else wide)(files.spots))
+    """The reference of a kind's record is what the first gives for the offsets of the code, and
+    that of a UNITREF what the second gives."""
+    return lambda files, kind: files.refer(
+        kind, (narrow if kind == "unitref" else wide)(files.spots))
 
 
-rule("31", "A {kind} of {it} refers to a byte past the code.", KINDS, spread=False)(referring(lambda spots: spots.length - 1, lambda spots: spots.length))
+rule("31", "A {kind} of {it} refers to a byte past the code.", KINDS, spread=False)(referring(
+    lambda spots: spots.length - 1, lambda spots: spots.length))
 
 
 def referring_far(reference):
     """A reference is this one, and the next is good."""
-    return lambda files, kind: files.refer(kind, reference, files.record(kind)[1].references[files.turn.listed])
+    return lambda files, kind: files.refer(
+        kind, reference, files.record(kind)[1].references[files.turn.listed])
 
 
-rule("31-far", "A {kind} of {it} refers to byte 65535, and then to its operand.", KINDS)(referring_far(65535))
-rule("31-high", "A {kind} of {it} refers to a byte from 32768 on, and then to its operand.", KINDS)(referring_far(32769))
+rule("31-far", "A {kind} of {it} refers to byte 65535, and then to its operand.", KINDS)(
+    referring_far(65535))
+rule("31-high", "A {kind} of {it} refers to a byte from 32768 on, and then to its operand.", KINDS)(
+    referring_far(32769))
 
 
-@rule("31-later", "The last reference of a {kind} of {it} is to a byte past the code.", KINDS, spread=False)
+@rule(
+    "31-later", "The last reference of a {kind} of {it} is to a byte past the code.", KINDS,
+    spread=False)
 def outside_at_last(files, kind):
     index, record = files.record(kind)
     record.references.append(files.spots.length - (kind != "unitref"))
@@ -410,9 +469,12 @@ def outside_at_last(files, kind):
     return [index, record.words[1] - 1]
 
 
-for name, what, wide, narrow in [("", "the first byte of a table", lambda spots: spots.table - 9, lambda spots: spots.table - 8),
-                                 ("-level", "the last byte of a table", lambda spots: spots.table + 1, lambda spots: spots.table + 1)]:
-    rule(f"32{name}", f"A {{kind}} of {{it}} refers to {what}.", KINDS, spread=bool(name))(referring(wide, narrow))
+for name, what, wide, narrow in [("", "the first byte of a table", lambda spots: spots.table - 9,
+                                  lambda spots: spots.table - 8),
+                                 ("-level", "the last byte of a table",
+                                  lambda spots: spots.table + 1, lambda spots: spots.table + 1)]:
+    rule(f"32{name}", f"A {{kind}} of {{it}} refers to {what}.", KINDS, spread=bool(name))(
+        referring(wide, narrow))
 
 
 @rule("32-dictionary", "A {kind} of {it} refers to the first byte of the dictionary.", KINDS)
@@ -422,60 +484,82 @@ def in_the_dictionary(files, kind):
     return files.refer(kind, files.spots.dictionary - (kind != "unitref"))
 
 
-rule("32-number", "A {kind} of {it} refers to the segment number.", ["unitref"], spread=False)(referring(None, lambda spots: spots.length - 2))
-rule("32-count", "A {kind} of {it} refers to the last byte of the code.", ["unitref"], spread=False)(referring(None, lambda spots: spots.length - 1))
-rule("32-end", "A {kind} of {it} refers to the last two bytes of the code.", WIDE)(referring(lambda spots: spots.length - 2, None))
+rule("32-number", "A {kind} of {it} refers to the segment number.", ["unitref"], spread=False)(
+    referring(None, lambda spots: spots.length - 2))
+rule(
+    "32-count", "A {kind} of {it} refers to the last byte of the code.", ["unitref"],
+    spread=False)(referring(None, lambda spots: spots.length - 1))
+rule("32-end", "A {kind} of {it} refers to the last two bytes of the code.", WIDE)(referring(
+    lambda spots: spots.length - 2, None))
 
 
 def of_three_tables(after):
-    """Three tables: those of procedures 2 and 3, each after two bytes of instructions, follow that of the first, `after` in twelves."""
+    """Three tables: those of procedures 2 and 3, each after two bytes of instructions, follow that
+    of the first, `after` in twelves."""
 
     def change(files, kind):
         before = files.spots.public
-        files.segment.procedures = [files.main(), Procedure(["AD 00"], number=2), Procedure(["AD 00"], number=3)]
+        files.segment.procedures = [files.main(), Procedure(["AD 00"], number=2),
+                                    Procedure(["AD 00"], number=3)]
         files.spots = spots_of(files.segment.procedures, files.turn)
         for record in files.segment.records:
-            record.references = record.references and [place + files.spots.public - before for place in record.references]
+            record.references = record.references and [
+                place + files.spots.public - before for place in record.references]
         place = files.spots.table - 8 + 12 * after
         return files.refer(kind, place - (kind != "unitref"))
 
     return change
 
 
-rule("32-first", "A {kind} of {it} refers to the table of the first of its three procedures.", KINDS)(of_three_tables(0))
-rule("32-third", "A {kind} of {it} refers to the table of the third of its three procedures.", KINDS)(of_three_tables(2))
+rule(
+    "32-first", "A {kind} of {it} refers to the table of the first of its three procedures.",
+    KINDS)(of_three_tables(0))
+rule(
+    "32-third", "A {kind} of {it} refers to the table of the third of its three procedures.",
+    KINDS)(of_three_tables(2))
 
 
 def another(files, kind, references):
-    """A second record of a kind, whose references begin with some to bytes that nothing else refers to. Gives the indices of the record
-    and of the first of the others."""
+    """A second record of a kind, whose references begin with some to bytes that nothing else refers
+    to. Gives the indices of the record and of the first of the others."""
     free = files.spots.free[: files.turn.more]
-    record = {"publref": publ_ref(files.turn.public, [*free, *references]), "privref": priv_ref("OTHER", 1, [*free, *references]),
+    record = {"publref": publ_ref(files.turn.public, [*free, *references]),
+              "privref": priv_ref("OTHER", 1, [*free, *references]),
               "unitref": unit_ref(files.used, [*free, *references])}[kind]
     return [files.append(record), len(free)]
 
 
 def sharing(wide, narrow):
-    """A further record of a kind has this reference, as an offset from the operand of a PUBLREF on."""
-    return lambda files, kind: another(files, kind, [files.spots.public + (narrow if kind == "unitref" else wide)])
+    """A further record of a kind has this reference, as an offset from the operand of a PUBLREF
+    on."""
+    return lambda files, kind: another(files, kind, [
+        files.spots.public + (narrow if kind == "unitref" else wide)])
 
 
-# (wide: the second byte is that of the UNITREF, the first is the second of the PRIVREF, the second the first of the PUBLREF, and so on)
-for name, what, wide, narrow in [("", "the byte of a UNITREF, or to the second of a PRIVREF", 5, 4),
-                                 ("-private-second", "the second byte of the PRIVREF's operand, or to that of the UNITREF", 4, 6),
-                                 ("-public-first", "the first byte of the PUBLREF's operand", -1, 0),
-                                 ("-private-first", "the first byte of the PRIVREF's operand", 2, 3),
-                                 ("-public-second", "the second byte of the PUBLREF's operand", 1, 1)]:
-    rule(f"33{name}", f"A further {{kind}} of {{it}} refers to {what}.", KINDS, spread=bool(name))(sharing(wide, narrow))
+# (wide: the second byte is that of the UNITREF, the first is the second of the PRIVREF, the second
+# the first of the PUBLREF, and so on)
+for name, what, wide, narrow in [
+        ("", "the byte of a UNITREF, or to the second of a PRIVREF", 5, 4),
+        ("-private-second", "the second byte of the PRIVREF's operand, or to that of the UNITREF",
+         4, 6),
+        ("-public-first", "the first byte of the PUBLREF's operand", -1, 0),
+        ("-private-first", "the first byte of the PRIVREF's operand", 2, 3),
+        ("-public-second", "the second byte of the PUBLREF's operand", 1, 1)]:
+    rule(f"33{name}", f"A further {{kind}} of {{it}} refers to {what}.", KINDS, spread=bool(name))(
+        sharing(wide, narrow))
 
 
-@rule("32-before-33", "A further {kind} of {it} refers to the byte of a UNITREF and to a table.", WIDE)
+@rule(
+    "32-before-33", "A further {kind} of {it} refers to the byte of a UNITREF and to a table.",
+    WIDE)
 def reserved_and_shared(files, kind):
     files.append(unit_ref(files.used, [files.spots.table - 9]))
     return another(files, kind, [files.spots.table - 9])
 
 
-@rule("33-before-34", "A further {kind} of {it} refers to an operand that a PUBLREF has made 32767.", WIDE)
+@rule(
+    "33-before-34", "A further {kind} of {it} refers to an operand that a PUBLREF has made 32767.",
+    WIDE)
 def shared_and_large(files, kind):
     files.main().parts[-2] = (32767 - files.turn.value).to_bytes(2, "big")
     files.append(publ_ref(files.turn.public, [files.spots.spare]))
@@ -500,11 +584,19 @@ def overlapping(by):
     return change
 
 
-rule("33-list-second", "A {kind} of {it} refers to an operand, and then to one whose second byte is the first of it.", WIDE, spread=False)(overlapping(-1))
-rule("33-list-first", "A {kind} of {it} refers to an operand, and then to one whose first byte is the second of it.", WIDE, spread=False)(overlapping(1))
+rule(
+    "33-list-second",
+    "A {kind} of {it} refers to an operand, and then to one whose second byte is the first of it.",
+    WIDE, spread=False)(overlapping(-1))
+rule(
+    "33-list-first",
+    "A {kind} of {it} refers to an operand, and then to one whose first byte is the second of it.",
+    WIDE, spread=False)(overlapping(1))
 
 
-@rule("34", "The displacement and the value of a {kind} of {it} are 32768 together.", WIDE, spread=False)
+@rule(
+    "34", "The displacement and the value of a {kind} of {it} are 32768 together.", WIDE,
+    spread=False)
 def large_operand(files, kind):
     files.operand(kind).old = 32768 - {"publref": files.turn.value, "privref": files.offset()}[kind]
     return [files.record(kind)[0], files.turn.listed]
@@ -523,13 +615,15 @@ def later_operand(files, kind):
 
 
 def first_of(number, name, about, at=None, references=(), names=("public", None)):
-    """The PUBLREF has this name of the case, and in place of a reference these, each as an offset from a spot of the code: the one at
-    `at` is reported. A record of the second name follows, if there is one."""
+    """The PUBLREF has this name of the case, and in place of a reference these, each as an offset
+    from a spot of the code: the one at `at` is reported. A record of the second name follows, if
+    there is one."""
 
     @rule(f"{number}-before-{name}", about)
     def change(files):
         places = [getattr(files.spots, spot) + by for spot, by in references]
-        index, first = files.refer("publref", *places) if places else (files.record("publref")[0], 0)
+        index, first = files.refer("publref", *places) if places else (
+            files.record("publref")[0], 0)
         files.segment.records[index].name = getattr(files.turn, names[0])
         if names[1]:
             files.append(publ_ref(getattr(files.turn, names[1]), []))
@@ -537,17 +631,33 @@ def first_of(number, name, about, at=None, references=(), names=("public", None)
 
 
 OPERAND, PAST, TABLE = ("public", 0), ("length", -1), ("table", -9)
-first_of(28, "29", "A PUBLREF of {it} has a name without a definition, and the next that of a constant.", names=("missing", "constant"))
-first_of(29, "28", "A PUBLREF of {it} has the name of a constant, and the next one without a definition.", names=("constant", "missing"))
-first_of(28, "31", "A PUBLREF of {it} has a name without a definition, and refers to a byte past the code.", None, [PAST], ("missing", None))
-first_of(31, "28", "A PUBLREF of {it} refers to a byte past the code, and the next has a name without a definition.", 0, [PAST], ("public", "missing"))
-first_of(32, "31", "A reference of a PUBLREF of {it} is reserved, and the next past the code.", 0, [TABLE, PAST])
-first_of(33, "32", "A reference of a PUBLREF of {it} is the one before again, and the next is reserved.", 1, [OPERAND, OPERAND, TABLE])
+first_of(
+    28, "29", "A PUBLREF of {it} has a name without a definition, and the next that of a constant.",
+    names=("missing", "constant"))
+first_of(
+    29, "28",
+    "A PUBLREF of {it} has the name of a constant, and the next one without a definition.",
+    names=("constant", "missing"))
+first_of(
+    28, "31",
+    "A PUBLREF of {it} has a name without a definition, and refers to a byte past the code.", None,
+    [PAST], ("missing", None))
+first_of(
+    31, "28",
+    "A PUBLREF of {it} refers to a byte past the code, and the next has a name without a "
+    "definition.",
+    0, [PAST], ("public", "missing"))
+first_of(32, "31", "A reference of a PUBLREF of {it} is reserved, and the next past the code.", 0, [
+    TABLE, PAST])
+first_of(
+    33, "32", "A reference of a PUBLREF of {it} is the one before again, and the next is reserved.",
+    1, [OPERAND, OPERAND, TABLE])
 
 
 @rule("32-reference-256", "Reference 256 of a UNITREF of {it} is reserved.")
 def late_reference(files):
-    files.segment.procedures = [Procedure([Operand(UNITREF, files.used) for _ in range(256)], data=10)]
+    files.segment.procedures = [Procedure(
+                                    [Operand(UNITREF, files.used) for _ in range(256)], data=10)]
     kept = [record for record in files.segment.records[:-1] if not record.references]
     files.segment.records[:-1] = [*kept, unit_ref(files.used, list(range(257)))]
     return [len(files.segment.records) - 2, 256]
@@ -572,20 +682,26 @@ def valued(displacement):
     return change
 
 
-rule("34-value", "A PUBLREF of {it} has the value 65535, and its operand the displacement 0.")(valued(0))
-rule("34-sum", "A PUBLREF of {it} has the value 65535, and its operand the displacement 1.")(valued(1))
+rule("34-value", "A PUBLREF of {it} has the value 65535, and its operand the displacement 0.")(
+    valued(0))
+rule("34-sum", "A PUBLREF of {it} has the value 65535, and its operand the displacement 1.")(
+    valued(1))
 
 
-# Where units come from ------------------------------------------------------------------------------------------------
+# Where units come from ----------------------------------------------------------------------------
 
 
-# What the entry of a unit in its library is not: the unit is missing then, or refused. By rule its name, what is said of the unit, what is
-# set, and the kind that is reported, or None where the unit is missing
-ENTRIES = [("13-length", "has length 0", {"length": 0}, None), ("13-address", "has address 0", {"address": 0}, None),
+# What the entry of a unit in its library is not: the unit is missing then, or refused. By rule its
+# name, what is said of the unit, what is set, and the kind that is reported, or None where the unit
+# is missing
+ENTRIES = [("13-length", "has length 0", {"length": 0}, None),
+           ("13-address", "has address 0", {"address": 0}, None),
            ("13-name", "has another name", {"name": "OTHER"}, None),
-           *((f"14-kind-{kind}", f"has kind {kind}", {"kind": kind}, kind) for kind in (0, 1, 2, 4, 5, 8))]
+           *((f"14-kind-{kind}", f"has kind {kind}", {"kind": kind}, kind)
+             for kind in (0, 1, 2, 4, 5, 8))]
 TWICE = [("15", UNITSEG), ("15-other-kind", 5)]
-BROKEN = [(1, "has 511 bytes", {"cut": 511, "refused": 1}), (2, "has kinds in both orders", {"refused": 2, "changes": {192: "01 01"}}),
+BROKEN = [(1, "has 511 bytes", {"cut": 511, "refused": 1}),
+          (2, "has kinds in both orders", {"refused": 2, "changes": {192: "01 01"}}),
           (3, "is in the other order", {})]
 
 
@@ -596,8 +712,9 @@ def entry_case(rule, place, order, turn, named="places/{}"):
         setattr(files.segment, field, value)
     fault = files.asked() if kind is None else Fault(14, files.number, files.host_slot, kind=kind)
     about = f"{place.about()} {what}."
-    return Case(named.format(f"{name}-{place}-{order}-endian"), about[0].upper() + about[1:], files.host, files.libraries, fault=fault,
-                given=files.given)
+    return Case(
+        named.format(f"{name}-{place}-{order}-endian"), about[0].upper() + about[1:], files.host,
+        files.libraries, fault=fault, given=files.given)
 
 
 def twice_case(rule, place, order, turn, named="places/{}"):
@@ -608,7 +725,8 @@ def twice_case(rule, place, order, turn, named="places/{}"):
     # (the unit is the second of the two)
     first, files.entry = sorted((files.entry, free[turn.slot % len(free)]))
     slots.pop(files.file().last)
-    slots[files.entry], slots[first] = files.segment, Segment(files.segment.name, kind, shares=files.entry)
+    slots[files.entry], slots[first] = files.segment, Segment(
+        files.segment.name, kind, shares=files.entry)
     files.file().last = files.entry
     about = f"The library has {place.about()} twice" + (", once with kind 5." if kind == 5 else ".")
     return Case(named.format(f"{name}-{place}-{order}-endian"), about, files.host, files.libraries,
@@ -622,15 +740,18 @@ def library_case(rule, place, order, turn, named="places/{}"):
     for field, value in (values or {"order": "little" if order == "big" else "big"}).items():
         setattr(files.file(), field, value)
     which = ("first", "second", "third")[place.library - 1]
-    return Case(named.format(f"{number}-library-{place.library}-{order}-endian"), f"The {which} library {what}.", files.host, files.libraries,
-                fault=Fault(number, files.number), given=files.given)
+    return Case(
+        named.format(f"{number}-library-{place.library}-{order}-endian"),
+        f"The {which} library {what}.", files.host, files.libraries,
+        fault=Fault(number, files.number), given=files.given)
 
 
 def of_libraries():
-    for rules, make, places in ((ENTRIES, entry_case, UNITS), (TWICE, twice_case, UNITS),
-                                (BROKEN, library_case, [Place("wanted", library) for library in LIBRARIES])):
+    for rules, make, places in ((ENTRIES, entry_case, UNITS), (TWICE, twice_case, UNITS), (
+            BROKEN, library_case, [Place("wanted", library) for library in LIBRARIES])):
         for rule in rules:
-            for number, (place, order) in enumerate((place, order) for place in places for order in ORDERS):
+            for number, (place, order) in enumerate(
+                    (place, order) for place in places for order in ORDERS):
                 if make != entry_case or rule[3] in (None, 5) or place.role == "wanted":
                     yield make(rule, place, order, turn_of(f"{rule[0]} of a library", number))
 
