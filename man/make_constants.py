@@ -222,10 +222,12 @@ def replaced(text, *places):
 
 def script():
     """The module in JavaScript, with the faults, and with the texts by their numbers."""
-    listed = ", ".join(f"{kind.word}: {kind.number}" for kind in TEXTS + NAMES)
+    listed = textwrap.fill(", ".join(f"{kind.word}: {kind.number}" for kind in TEXTS + NAMES), 99,
+                           initial_indent="  ", subsequent_indent="  ").removeprefix("  ")
     of_names = ", ".join(f'"{kind.word}"' for kind in NAMES)
     text = between(SCRIPT.read_text(), FAULTS_FROM, said("  [", "],\n"))
-    return replaced(text, (r"(TEXTS = Object\.freeze\(\{\n  __proto__: null,\n  ).*(,$)", listed), (r"^(const OF_NAMES = .*\[).*(\])", of_names))
+    of_texts = r"(TEXTS = Object\.freeze\(\{\n  __proto__: null,\n  )[^}]*(,\n\})"
+    return replaced(text, (of_texts, listed), (r"^(const OF_NAMES = .*\[).*(\])", of_names))
 
 
 def calls_in_python():

@@ -1,5 +1,6 @@
 /*
- * Reads the words of the commands that the program has not, `pslink volume` and `pslink picture`, by node's reader of arguments.
+ * Reads the words of the commands that the program has not, `pslink volume` and `pslink picture`,
+ * by node's reader of arguments.
  */
 
 import {parseArgs} from "node:util";
@@ -8,7 +9,8 @@ import {helpOf, shownArgument, whole, wrongUsage} from "./usage.mjs";
 /** @typedef {import("./usage.mjs").Command} Command */
 
 /**
- * What words ask for: a text of the help, or a command with the values of the arguments that were given.
+ * What words ask for: a text of the help, or a command with the values of the arguments that were
+ * given.
  * @typedef {{help: string} | {command: Command, found: Map<string, string[]>}} Request
  */
 
@@ -24,7 +26,8 @@ export function parse(program, words) {
   if (first === "help") return {help: helpOf(rest.length === 0 ? all : commandIn(all, rest[0]))};
   if (isHelp(first)) return {help: helpOf(all)};
   const command = commandIn(all, first);
-  return rest.slice(0, endOf(rest)).some(isHelp) ? {help: helpOf(command)} : {command, found: valuesOf(command, rest)};
+  return rest.slice(0, endOf(rest)).some(isHelp) ? {help: helpOf(command)} :
+                                                   {command, found: valuesOf(command, rest)};
 }
 
 /** The command of this name, as messages are made of it. */
@@ -33,9 +36,13 @@ export function commandOf(program, name) {
 }
 
 function commandIn(all, name) {
-  const command = all.commands.find((one) => one.name === name), names = all.commands.map((one) => one.name).join(", ");
-  if (name === undefined) throw wrongUsage(all, `'${all.title}' requires a subcommand but one was not provided\n  [subcommands: ${names}]`);
-  if (!command) throw wrongUsage(all, `unrecognized subcommand '${name}'\n  [subcommands: ${names}]`);
+  const command = all.commands.find((one) => one.name === name),
+        names = all.commands.map((one) => one.name).join(", ");
+  if (name === undefined)
+    throw wrongUsage(all,
+      `'${all.title}' requires a subcommand but one was not provided\n  [subcommands: ${names}]`);
+  if (!command)
+    throw wrongUsage(all, `unrecognized subcommand '${name}'\n  [subcommands: ${names}]`);
   return command;
 }
 
@@ -46,16 +53,22 @@ const endOf = (words) => (words.includes("--") ? words.indexOf("--") : words.len
 
 /** The values of the arguments of a command, by their names. */
 function valuesOf(command, words) {
-  const files = command.arguments.filter(({positional}) => positional), options = command.arguments.filter(({positional}) => !positional);
+  const files = command.arguments.filter(({positional}) => positional),
+        options = command.arguments.filter(({positional}) => !positional);
   const {values, positionals} = read(command, options, words), found = new Map();
   files.forEach(({id, many}, at) => {
     const given = positionals.slice(at, many ? undefined : at + 1);
     if (given.length) found.set(id, given);
   });
-  if (!files.at(-1)?.many && positionals.length > files.length) throw wrongUsage(command, `unexpected argument '${positionals[files.length]}' found`);
-  for (const {id, long} of options) if (values[long] !== undefined) found.set(id, [values[long]]);
+  if (!files.at(-1)?.many && positionals.length > files.length)
+    throw wrongUsage(command, `unexpected argument '${positionals[files.length]}' found`);
+  for (const {id, long} of options)
+    if (values[long] !== undefined) found.set(id, [values[long]]);
   const missing = command.arguments.filter(({id, required}) => required && !found.has(id));
-  if (missing.length) throw wrongUsage(command, `the following required arguments were not provided:${missing.map((one) => `\n  ${shownArgument(one)}`).join("")}`);
+  if (missing.length)
+    throw wrongUsage(command,
+      `the following required arguments were not provided:${
+        missing.map((one) => `\n  ${shownArgument(one)}`).join("")}`);
   return found;
 }
 

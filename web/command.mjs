@@ -1,6 +1,7 @@
 /*
- * The command line over node: `node pslink.mjs link -o OUT HOST [LIB]...` and so on. The module pslink_command.wasm is the program
- * pslink itself, and host.mjs is what it asks of a system. `volume` and `picture` stand beside it.
+ * The command line over node: `node pslink.mjs link -o OUT HOST [LIB]...` and so on. The module
+ * pslink_command.wasm is the program pslink itself, and host.mjs is what it asks of a system.
+ * `volume` and `picture` stand beside it.
  */
 
 import {readFile} from "node:fs/promises";
@@ -32,13 +33,16 @@ class Failure extends Error {
 /**
  * Does the command that the words name, and gives the exit status.
  * @param {string[]} words what follows the name of the program
- * @param {{output?: number, error?: number}} [files] the files that are standard output and standard error, by their numbers
+ * @param {{output?: number, error?: number}} [files] the files that are standard output and
+ *   standard error, by their numbers
  * @returns {Promise<number>}
  */
 export async function main(words, {output = 1, error = 2} = {}) {
   const streams = new Streams(output, error);
   try {
-    if (parseInt(process.versions.node, 10) < OLDEST_NODE) throw new Failure(BROKEN, `node ${OLDEST_NODE} or later is needed, and this is ${process.version}`);
+    if (parseInt(process.versions.node, 10) < OLDEST_NODE)
+      throw new Failure(
+        BROKEN, `node ${OLDEST_NODE} or later is needed, and this is ${process.version}`);
     return await own(words, streams) ?? run(await program(), words, {output, error});
   } catch (failure) {
     const {status, text} = reported(failure);
@@ -59,7 +63,8 @@ async function own([first, ...rest], streams) {
 /** The status and the text of whatever ends a command before it is done. */
 function reported(failure) {
   if (failure instanceof WrongUsage) return {status: WRONG_USAGE, text: failure.message};
-  if (failure instanceof Unread || failure instanceof Unwritten) return {status: UNREAD, text: told(failure.message)};
+  if (failure instanceof Unread || failure instanceof Unwritten)
+    return {status: UNREAD, text: told(failure.message)};
   if (failure instanceof Failure) return {status: failure.status, text: told(failure.message)};
   if (isOutOfMemory(failure)) return {status: NO_MEMORY, text: told("out of memory")};
   return {status: BROKEN, text: told(`${OWN_ERROR}: ${failure?.message ?? failure}`)};
@@ -77,15 +82,18 @@ function run({path, module}, words, files) {
   try {
     return exports.pslink_command();
   } catch (error) {
-    if (error instanceof WebAssembly.RuntimeError || error instanceof RangeError) throw new Failure(BROKEN, `${OWN_ERROR}: the module trapped: ${error.message}`);
+    if (error instanceof WebAssembly.RuntimeError || error instanceof RangeError)
+      throw new Failure(BROKEN, `${OWN_ERROR}: the module trapped: ${error.message}`);
     throw error;
   }
 }
 
 function instance(path, module, imports) {
   try {
-    const made = new WebAssembly.Instance(module, imports), {memory, __heap_base: base, pslink_command: command} = made.exports;
-    if (!memory || base === undefined || typeof command !== "function") throw new TypeError("it has no pslink_command");
+    const made = new WebAssembly.Instance(module, imports),
+          {memory, __heap_base: base, pslink_command: command} = made.exports;
+    if (!memory || base === undefined || typeof command !== "function")
+      throw new TypeError("it has no pslink_command");
     return made;
   } catch (error) {
     throw new Failure(BROKEN, `${path} is not the module of the command: ${error.message}`);
@@ -101,7 +109,8 @@ function once(name, work) {
 }
 
 /** The program, compiled, with its path. */
-const program = () => once(COMMAND, async (bytes, path) => ({path, module: await WebAssembly.compile(bytes)}));
+const program = () =>
+  once(COMMAND, async (bytes, path) => ({path, module: await WebAssembly.compile(bytes)}));
 
 /** The functions of the library. */
 const linker = () => once(LINKER, load);
@@ -110,10 +119,13 @@ async function loaded(name, work) {
   const paths = PLACES.map((place) => fileURLToPath(new URL(place + name, import.meta.url)));
   const read = await Promise.allSettled(paths.map((path) => readFile(path)));
   const at = read.findIndex(({status}) => status === "fulfilled");
-  if (at < 0) throw new Failure(UNREAD, `cannot read ${paths[0]}, which has to be beside command.mjs`);
+  if (at < 0)
+    throw new Failure(UNREAD, `cannot read ${paths[0]}, which has to be beside command.mjs`);
   try {
     return await work(read[at].value, paths[at]);
   } catch (error) {
-    throw new Failure(BROKEN, `${paths[at]} is not the module of ${name === COMMAND ? "the command" : "pslink"}: ${error.message}`);
+    throw new Failure(BROKEN,
+      `${paths[at]} is not the module of ${name === COMMAND ? "the command" : "pslink"}: ${
+        error.message}`);
   }
 }

@@ -11,10 +11,15 @@
 
 const COLOURS = 8; // how many files have colours of their own
 const SPACE = "http://www.w3.org/2000/svg";
-const ESCAPES = {"&": "&amp;", "<": "&lt;", ">": "&gt;", '"': "&quot;"};
+const ESCAPES = {
+  "&": "&amp;",
+  "<": "&lt;",
+  ">": "&gt;",
+  '"': "&quot;"
+};
 // what a picture by itself has no use for: it cannot be chosen from
-const OF_A_PAGE = ["tabindex", "role", "aria-checked", "aria-label", "data-slot", "data-from",
-  "data-to"];
+const OF_A_PAGE =
+  ["tabindex", "role", "aria-checked", "aria-label", "data-slot", "data-from", "data-to"];
 
 /**
  * An element of the page with these properties, where `label` is its name for a reader of screens,

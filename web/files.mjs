@@ -1,5 +1,6 @@
 /*
- * Files and streams for `pslink volume` over node. Each is done at once and in order, so that one file alone is open at a time.
+ * Files and streams for `pslink volume` over node. Each is done at once and in order, so that one
+ * file alone is open at a time.
  */
 
 import {closeSync, fstatSync, openSync, readSync, realpathSync, statSync, writeSync} from "node:fs";
@@ -13,12 +14,20 @@ const CHUNK = 65536, MILLISECONDS_TO_WAIT = 5;
 
 // control characters, and those that end a line, take no room on it or turn its direction
 const HIDDEN = /[\p{Cc}\p{Zl}\p{Zp}\p{Default_Ignorable_Code_Point}\uFFF9-\uFFFB]/u;
-const LETTERS = {"\0": "0", "\t": "t", "\n": "n", "\r": "r", '"': '"', "\\": "\\"};
+const LETTERS = {
+  "\0": "0",
+  "\t": "t",
+  "\n": "n",
+  "\r": "r",
+  '"': '"',
+  "\\": "\\"
+};
 
 /** A file that cannot be read, or that is too long. */
 export class Unread extends Error {
   constructor(path, isTooLong = false) {
-    super(isTooLong ? `${shownPath(path)} is longer than ${LONGEST} bytes` : `cannot read ${shownPath(path)}`);
+    super(isTooLong ? `${shownPath(path)} is longer than ${LONGEST} bytes` :
+                      `cannot read ${shownPath(path)}`);
   }
 }
 
@@ -99,7 +108,10 @@ function writeWhole(file, bytes) {
   for (let done = 0; done < bytes.length;) done += writeSome(file, bytes.subarray(done));
 }
 
-/** Writes some of the bytes, and gives how many. A stream that takes none at the moment is waited for. */
+/**
+ * Writes some of the bytes, and gives how many. A stream that takes none at the moment is waited
+ * for.
+ */
 function writeSome(file, bytes) {
   try {
     return writeSync(file, bytes);
@@ -151,8 +163,10 @@ export class Streams {
 function writeStream(file, what) {
   const bytes = typeof what === "string" ? new TextEncoder().encode(what) : what;
   // (a console of Windows shows UTF-8 by node's stream alone)
-  if (process.platform === "win32" && isatty(file)) (file === 2 ? process.stderr : process.stdout).write(bytes);
-  else writeWhole(file, bytes);
+  if (process.platform === "win32" && isatty(file))
+    (file === 2 ? process.stderr : process.stdout).write(bytes);
+  else
+    writeWhole(file, bytes);
 }
 
 /** Whether two paths lead to one plain file. Where no file is, they do not. */
@@ -169,7 +183,8 @@ export function isThere(path) {
 
 /** Whether two files are one, by their number and device. The number is 0 where none is known. */
 function isOne(one, other) {
-  return one !== null && other !== null && one.ino !== 0n && one.ino === other.ino && one.dev === other.dev;
+  return one !== null && other !== null && one.ino !== 0n && one.ino === other.ino &&
+    one.dev === other.dev;
 }
 
 function isSameName(path, other) {
@@ -179,18 +194,24 @@ function isSameName(path, other) {
 /** What the system says of a file, by its path or its number; null where there is none. */
 function statOf(file) {
   try {
-    return typeof file === "number" ? fstatSync(file, {bigint: true}) : statSync(systemPath(file), {bigint: true});
+    return typeof file === "number" ? fstatSync(file, {bigint: true}) :
+                                      statSync(systemPath(file), {bigint: true});
   } catch {
     return null;
   }
 }
 
-/** The path by which node finds the file. Of the device NUL node would make a file in the folder. */
+/**
+ * The path by which node finds the file. Of the device NUL node would make a file in the folder.
+ */
 export function systemPath(path, platform = process.platform) {
   return platform === "win32" && /^nul:?$/i.test(path) ? devNull : path;
 }
 
-/** A path in a line for a person: as it is, or, where it has a hidden character, in quotes with each of these escaped. */
+/**
+ * A path in a line for a person: as it is, or, where it has a hidden character, in quotes with
+ * each of these escaped.
+ */
 export function shownPath(path) {
   return HIDDEN.test(path) ? `"${Array.from(path, escaped).join("")}"` : path;
 }

@@ -1,6 +1,7 @@
 /*
- * The host of the command line over node: memory, arguments, files and streams for the module pslink_command.wasm, which is the
- * program. What each function answers is said in everywhere/crates/host_files/host.rt.txt. Paths are node's strings.
+ * The host of the command line over node: memory, arguments, files and streams for the module
+ * pslink_command.wasm, which is the program. What each function answers is said in
+ * everywhere/crates/host_files/host.rt.txt. Paths are node's strings.
  */
 
 import {closeSync, fstatSync, openSync, readSync, statSync, writeSync} from "node:fs";
@@ -9,7 +10,12 @@ import {systemPath} from "./files.mjs";
 
 const MISSING = -1, FOLDER = -2, FORBIDDEN = -3, NO_PATH = -4, OTHER = -5;
 const CAUSES = {
-  ENOENT: MISSING, ENOTDIR: MISSING, EISDIR: FOLDER, EACCES: FORBIDDEN, EPERM: FORBIDDEN, EBUSY: FORBIDDEN,
+  ENOENT: MISSING,
+  ENOTDIR: MISSING,
+  EISDIR: FOLDER,
+  EACCES: FORBIDDEN,
+  EPERM: FORBIDDEN,
+  EBUSY: FORBIDDEN,
   ERR_INVALID_ARG_VALUE: NO_PATH,
 };
 
@@ -28,7 +34,8 @@ export class Host {
 
   /**
    * @param {string[]} words the name of the program and what follows it
-   * @param {{output: number, error: number}} streams the files that are standard output and standard error, by their numbers
+   * @param {{output: number, error: number}} streams the files that are standard output and
+   *   standard error, by their numbers
    */
   constructor(words, {output, error}) {
     this.#arguments = words.map(bytesOf);
@@ -68,8 +75,10 @@ export class Host {
         const stat = statOf(Number(file));
         return stat?.isFile() ? stat.size : 0n;
       },
-      host_read: (file, room, size) => attempt(() => readSync(Number(file), this.#bytes(room, size))),
-      host_write: (file, bytes, size) => attempt(() => writeSome(this.#file(file), this.#bytes(bytes, size))),
+      host_read: (file, room, size) =>
+        attempt(() => readSync(Number(file), this.#bytes(room, size))),
+      host_write: (file, bytes, size) =>
+        attempt(() => writeSome(this.#file(file), this.#bytes(bytes, size))),
       host_close: (file) => attempt(() => (closeSync(Number(file)), 0)),
     };
   }
@@ -107,12 +116,15 @@ export class Host {
 
   /** The place of so many bytes that nothing else has; null where there is no memory. */
   #place(size) {
-    const place = Math.ceil(this.#free / ALIGNMENT) * ALIGNMENT, end = place + Math.max(Number(size), 1);
+    const place = Math.ceil(this.#free / ALIGNMENT) * ALIGNMENT,
+          end = place + Math.max(Number(size), 1);
     const lacking = end - this.#memory.buffer.byteLength;
     if (end > MEMORY_MAX) return null;
     try {
       // (a quarter more, so that it is seldom made to grow)
-      if (lacking > 0) this.#memory.grow(Math.ceil(lacking / PAGE_SIZE) + Math.floor(this.#memory.buffer.byteLength / PAGE_SIZE / 4));
+      if (lacking > 0)
+        this.#memory.grow(Math.ceil(lacking / PAGE_SIZE) +
+          Math.floor(this.#memory.buffer.byteLength / PAGE_SIZE / 4));
     } catch {
       return null;
     }
@@ -127,9 +139,13 @@ export class Host {
   }
 }
 
-/** An argument as bytes. Node has U+FFFD for what is no UTF-8: a byte that is none stands for it, so that the module says so. */
+/**
+ * An argument as bytes. Node has U+FFFD for what is no UTF-8: a byte that is none stands for it,
+ * so that the module says so.
+ */
 function bytesOf(text) {
-  const parts = text.split("\uFFFD").map((part) => Buffer.from(part.isWellFormed() ? part : `${part.toWellFormed()}`));
+  const parts = text.split("\uFFFD").map(
+    (part) => Buffer.from(part.isWellFormed() ? part : `${part.toWellFormed()}`));
   return Buffer.concat(parts.flatMap((part, k) => (k === 0 ? [part] : [Buffer.of(0xff), part])));
 }
 
@@ -144,11 +160,15 @@ function attempt(work, path = null) {
   } catch (error) {
     const cause = CAUSES[error.code] ?? OTHER;
     // (Windows forbids to open a folder)
-    return BigInt(cause === FORBIDDEN && path !== null && statOf(path)?.isDirectory() ? FOLDER : cause);
+    return BigInt(
+      cause === FORBIDDEN && path !== null && statOf(path)?.isDirectory() ? FOLDER : cause);
   }
 }
 
-/** Writes some of the bytes, and gives how many. A stream that takes none at the moment is waited for. */
+/**
+ * Writes some of the bytes, and gives how many. A stream that takes none at the moment is waited
+ * for.
+ */
 function writeSome(file, bytes) {
   for (;;) {
     try {
@@ -167,7 +187,8 @@ function writeSome(file, bytes) {
 /** What the system says of a file, by its path or its number; null where there is none. */
 function statOf(file) {
   try {
-    return typeof file === "number" ? fstatSync(file, {bigint: true}) : statSync(systemPath(file), {bigint: true});
+    return typeof file === "number" ? fstatSync(file, {bigint: true}) :
+                                      statSync(systemPath(file), {bigint: true});
   } catch {
     return null;
   }
@@ -175,5 +196,6 @@ function statOf(file) {
 
 /** Whether two files are one, by their number and device. The number is 0 where none is known. */
 function areOne(one, other) {
-  return one !== null && other !== null && one.ino !== 0n && one.ino === other.ino && one.dev === other.dev;
+  return one !== null && other !== null && one.ino !== 0n && one.ino === other.ino &&
+    one.dev === other.dev;
 }

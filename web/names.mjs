@@ -6,8 +6,15 @@
 // Control characters, and those of Unicode that end a line, take no room on it or turn its
 // direction, as a report knows them.
 const HIDDEN = /[\p{Cc}\p{Zl}\p{Zp}\p{Default_Ignorable_Code_Point}\uFFF9-\uFFFB]/gu;
-const LETTERS = {__proto__: null, "\0": "\\0", "\t": "\\t", "\n": "\\n", "\r": "\\r", '"': '\\"',
-  "\\": "\\\\"};
+const LETTERS = {
+  __proto__: null,
+  "\0": "\\0",
+  "\t": "\\t",
+  "\n": "\\n",
+  "\r": "\\r",
+  '"': '\\"',
+  "\\": "\\\\"
+};
 
 /**
  * The name as a report has it: where a character of it is hidden, in quotes with each of these

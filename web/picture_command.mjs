@@ -22,7 +22,8 @@ const PROGRAM = {
   commands: [
     {
       name: "picture",
-      about: "Draws a link as an SVG file: where each part comes from, who refers to whom, and the data",
+      about:
+        "Draws a link as an SVG file: where each part comes from, who refers to whom, and the data",
       ending: `Example:
   pslink picture -o demo.svg host.code library.code
 
@@ -36,12 +37,26 @@ Exit status:
   4  out of memory`,
       usage: "pslink picture -o <FILE> <HOST> [LIB]...",
       arguments: [
-        {id: "HOST", positional: true, required: true,
-          help: "The code file that holds the host program"},
-        {id: "LIB", positional: true, many: true,
-          help: "A library to search for units, in the order given"},
-        {id: "FILE", long: "output", short: "o", valued: true, required: true,
-          help: "The SVG file to write"},
+        {
+          id: "HOST",
+          positional: true,
+          required: true,
+          help: "The code file that holds the host program"
+        },
+        {
+          id: "LIB",
+          positional: true,
+          many: true,
+          help: "A library to search for units, in the order given"
+        },
+        {
+          id: "FILE",
+          long: "output",
+          short: "o",
+          valued: true,
+          required: true,
+          help: "The SVG file to write"
+        },
       ],
     },
   ],
@@ -61,7 +76,7 @@ export async function runPicture(words, streams, linker) {
     return DONE;
   }
   const {found} = request, paths = [...found.get("HOST"), ...(found.get("LIB") ?? [])],
-    [out] = found.get("FILE");
+        [out] = found.get("FILE");
   refuseInput(out, paths);
   const files = paths.map((path) => ({name: path, bytes: readFile(path)})), pslink = await linker();
   const result = await pslink.link(files), report = await pslink.text("check", files);
@@ -86,6 +101,6 @@ function failed({status, reason}, streams) {
 function refuseInput(out, paths) {
   const path = paths.find((other) => other === out || leadToOneFile(out, other));
   const same = {path, asNamed: "another file", asFile: "the file"};
-  if (path !== undefined) throw sameFile(commandOf(PROGRAM, "picture"), "--output <FILE>", out,
-    same);
+  if (path !== undefined)
+    throw sameFile(commandOf(PROGRAM, "picture"), "--output <FILE>", out, same);
 }

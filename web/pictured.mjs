@@ -19,17 +19,20 @@
  */
 
 const BLOCK = 512, SLOTS = 16, RECORD = 16, IN_A_PIECE = 8, TABLE_BEFORE = 8, TABLE = 10,
-  BEFORE_SIZES = 2;
+      BEFORE_SIZES = 2;
 const HOSTSEG = 1, UNITSEG = 3;
 const DRAWN_FILES = 6; // so many files that are refused are drawn, and the one at fault
 
 /** The number of the segment dictionary, where segments have those of their slots. */
 export const DICTIONARY = 16;
 
-// the fields of a slot in block 0: where they begin, how long they are, and how far it is to those of the next slot
+// the fields of a slot in block 0: where they begin, how long they are, and how far it is to those
+// of the next slot
 const FIELDS = [
-  {what: "address", from: 0, size: 2, step: 4}, {what: "length", from: 2, size: 2, step: 4},
-  {what: "name", from: 64, size: 8, step: 8}, {what: "kind", from: 192, size: 2, step: 2},
+  {what: "address", from: 0, size: 2, step: 4},
+  {what: "length", from: 2, size: 2, step: 4},
+  {what: "name", from: 64, size: 8, step: 8},
+  {what: "kind", from: 192, size: 2, step: 2},
   {what: "text address", from: 224, size: 2, step: 2},
 ];
 
@@ -56,8 +59,9 @@ function partsOfSlot({slot, name, address, length, text, records}, taken) {
   const hasCode = length > 0 && address > 0;
   return [
     ...(hasCode ? [part("code", BLOCK * address, length)] : []),
-    ...(hasCode && records?.length
-      ? [part("links", behind(address, length), sizeOfRecords(records))] : []),
+    ...(hasCode && records?.length ?
+        [part("links", behind(address, length), sizeOfRecords(records))] :
+        []),
     ...(text > 0 ? [part("text", BLOCK * text, 0)] : []),
   ];
 }
@@ -72,8 +76,8 @@ function partsOfSlot({slot, name, address, length, text, records}, taken) {
  */
 export function partsOf(show, size, takenTo) {
   const dictionary = {kind: "dictionary", slot: null, name: "", first: 0, size: BLOCK, taken: null};
-  const parts = [dictionary,
-    ...show.slots.flatMap((line) => partsOfSlot(line, takenTo(line.slot)))];
+  const parts =
+    [dictionary, ...show.slots.flatMap((line) => partsOfSlot(line, takenTo(line.slot)))];
   parts.sort((one, other) => one.first - other.first);
   parts.forEach((part, k) => {
     const next = parts.slice(k + 1).find(({first}) => first > part.first)?.first ?? size;
@@ -87,8 +91,8 @@ export function partsOf(show, size, takenTo) {
 
 function roleOf({file, entry, added}, shows) {
   if (file > 0) return added ? "added unit" : "wanted unit";
-  return {[HOSTSEG]: "host program", [UNITSEG]: "unit of the host"}[shows[0].slots[entry].kind]
-    ?? "plain segment";
+  return {[HOSTSEG]: "host program", [UNITSEG]: "unit of the host"}[shows[0].slots[entry].kind] ??
+    "plain segment";
 }
 
 /**
@@ -97,8 +101,11 @@ function roleOf({file, entry, added}, shows) {
  */
 function storeOf({stores, at, was, is, record}) {
   const before = bytesIn(was), after = bytesIn(is);
-  const of = {what: record?.kind ?? stores, name: record?.name.trimEnd() ?? "",
-    record: record?.index ?? null};
+  const of = {
+    what: record?.kind ?? stores,
+    name: record?.name.trimEnd() ?? "",
+    record: record?.index ?? null
+  };
   const bytes = {at, size: after.length, was: before, is: after, isChanged: was !== is};
   const store = {...of, ...bytes, displacement: null, base: null};
   if (record && after.length === 2) {
@@ -120,9 +127,9 @@ export function tablesOf(code, wordAt) {
   const tables = [];
   for (let procedure = 1; procedure <= procedures; procedure++) {
     const at = code.length - BEFORE_SIZES - 2 * procedure, table = at - wordAt(at),
-      first = table - TABLE_BEFORE;
-    if (wordAt(at) && first >= 0
-      && table + 1 < start) tables.push([first, first + TABLE, procedure]);
+          first = table - TABLE_BEFORE;
+    if (wordAt(at) && first >= 0 && table + 1 < start)
+      tables.push([first, first + TABLE, procedure]);
   }
   return [...tables.sort(([one], [other]) => one - other), [start, code.length, 0]];
 }
@@ -130,7 +137,8 @@ export function tablesOf(code, wordAt) {
 /** The places at which two codes differ. */
 function changesOf(before, after) {
   const places = [];
-  for (let at = 0; at < after.length; at++) if (before[at] !== after[at]) places.push(at);
+  for (let at = 0; at < after.length; at++)
+    if (before[at] !== after[at]) places.push(at);
   return places;
 }
 
@@ -142,16 +150,30 @@ function unlistedOf(changes, stores) {
 
 function segmentOf(line, {shows, files, linked, references, privates, isBig}) {
   const {slot, file, entry, block, length, added} = line,
-    from = BLOCK * shows[file].slots[entry].address;
+                                           from = BLOCK * shows[file].slots[entry].address;
   const before = files[file].bytes.subarray(from, from + length);
   const code = linked.subarray(BLOCK * block, BLOCK * block + length);
   const role = roleOf(line, shows), stores = (references.get(slot) ?? []).map(storeOf);
   const changes = changesOf(before, code);
   const wordAt = (at) => isBig ? 256 * code[at] + code[at + 1] : code[at] + 256 * code[at + 1];
-  return {slot, name: line.name.trimEnd(), file, entry, block, length, isAdded: added, role, before,
-    code, stores, changes,
-    isLinked: role !== "plain segment", unlisted: unlistedOf(changes, stores),
-    privates: privates.filter((one) => one.slot === slot), tables: tablesOf(code, wordAt)};
+  return {
+    slot,
+    name: line.name.trimEnd(),
+    file,
+    entry,
+    block,
+    length,
+    isAdded: added,
+    role,
+    before,
+    code,
+    stores,
+    changes,
+    isLinked: role !== "plain segment",
+    unlisted: unlistedOf(changes, stores),
+    privates: privates.filter((one) => one.slot === slot),
+    tables: tablesOf(code, wordAt)
+  };
 }
 
 /** The fields of a slot in block 0, as places of it. */
@@ -165,16 +187,38 @@ const fieldsOf = (slot) =>
 function dictionaryOf({files, linked}) {
   const [before, code] = [files[0].bytes, linked].map((bytes) => bytes.subarray(0, BLOCK));
   const changes = changesOf(before, code), changed = new Set(changes);
-  const all = range(0, SLOTS).flatMap(fieldsOf).filter(({at, size}) =>
-    range(at, at + size).some((k) => changed.has(k)));
+  const all = range(0, SLOTS).flatMap(fieldsOf).filter(
+    ({at, size}) => range(at, at + size).some((k) => changed.has(k)));
   const stores = all.sort((one, other) => one.at - other.at).map(({what, slot, at, size}) => ({
-    what: "dictionary", name: `${what} of slot ${slot}`, record: null, at, size, isChanged: true,
-      displacement: null, base: null,
-    was: [...before.subarray(at, at + size)], is: [...code.subarray(at, at + size)]}));
-  return {slot: DICTIONARY, name: "dictionary", file: 0, entry: null, block: 0, length: BLOCK,
-    isAdded: false, before, code, stores,
-    changes, role: "segment dictionary", isLinked: false, unlisted: unlistedOf(changes, stores),
-      privates: [], tables: []};
+    what: "dictionary",
+    name: `${what} of slot ${slot}`,
+    record: null,
+    at,
+    size,
+    isChanged: true,
+    displacement: null,
+    base: null,
+    was: [...before.subarray(at, at + size)],
+    is: [...code.subarray(at, at + size)]
+  }));
+  return {
+    slot: DICTIONARY,
+    name: "dictionary",
+    file: 0,
+    entry: null,
+    block: 0,
+    length: BLOCK,
+    isAdded: false,
+    before,
+    code,
+    stores,
+    changes,
+    role: "segment dictionary",
+    isLinked: false,
+    unlisted: unlistedOf(changes, stores),
+    privates: [],
+    tables: []
+  };
 }
 
 /**
@@ -187,8 +231,8 @@ function edgesOf(segments, host) {
     for (const {what, is} of stores) {
       const to = {UNITREF: is[0], PUBLREF: host, PRIVREF: slot}[what];
       if (to === undefined) continue;
-      const key = `${what} ${slot} ${to}`, edge = edges.get(key)
-        ?? {kind: what, from: slot, to, count: 0};
+      const key = `${what} ${slot} ${to}`,
+            edge = edges.get(key) ?? {kind: what, from: slot, to, count: 0};
       edge.count++;
       edges.set(key, edge);
     }
@@ -200,8 +244,8 @@ function edgesOf(segments, host) {
 
 function groupedBySlot(lines) {
   const groups = new Map();
-  for (const line of lines) groups.set(line.slot, groups.get(line.slot)
-    ?? []).get(line.slot).push(line);
+  for (const line of lines)
+    groups.set(line.slot, groups.get(line.slot) ?? []).get(line.slot).push(line);
   return groups;
 }
 
@@ -210,19 +254,29 @@ function dataOf(map, host, isBig) {
   const size = host.stores.find(({what}) => what === "data size");
   const word = ([one, two]) => isBig ? 256 * one + two : one + 256 * two;
   const publics = map.definitions.filter(({kind}) => kind === "public");
-  return {was: word(size.was), is: word(size.is), next: map.next,
+  return {
+    was: word(size.was),
+    is: word(size.is),
+    next: map.next,
     words: sum(map.privates.map(({words}) => words)),
     own: map.privates.length ? Math.min(...map.privates.map(({offset}) => offset)) : map.next,
     privates: map.privates.map((one) => ({...one, name: one.name.trimEnd()})),
-    publics: publics.map(({name, value}) => ({name: name.trimEnd(), value}))};
+    publics: publics.map(({name, value}) => ({name: name.trimEnd(), value}))
+  };
 }
 
 function inputOf({name, bytes}, file, {segments, shows}) {
   const of = segments.filter((segment) => segment.file === file), isUsed = of.length > 0;
-  const taken = new Map(of.map(({entry, slot}) => [entry, slot])), takenTo = (slot) =>
-    taken.get(slot) ?? null;
-  return {file, name, blocks: Math.ceil(bytes.length / BLOCK), size: bytes.length, isUsed,
-    parts: isUsed ? partsOf(shows[file], bytes.length, takenTo) : []};
+  const taken = new Map(of.map(({entry, slot}) => [entry, slot])),
+        takenTo = (slot) => taken.get(slot) ?? null;
+  return {
+    file,
+    name,
+    blocks: Math.ceil(bytes.length / BLOCK),
+    size: bytes.length,
+    isUsed,
+    parts: isUsed ? partsOf(shows[file], bytes.length, takenTo) : []
+  };
 }
 
 /**
@@ -238,15 +292,20 @@ export function pictured({map, shows, files, linked}) {
   const isBig = shows[0].order === "big", references = groupedBySlot(map.references);
   const given = {shows, files, linked, references, privates: map.privates, isBig};
   const segments = map.segments.map((line) => segmentOf(line, given)),
-    dictionary = dictionaryOf(given);
+        dictionary = dictionaryOf(given);
   const host = segments.find(({role}) => role === "host program");
-  const slots = range(0, SLOTS).map((slot) => segments.find((segment) => segment.slot === slot)
-    ?? null);
+  const slots =
+    range(0, SLOTS).map((slot) => segments.find((segment) => segment.slot === slot) ?? null);
   return {
-    inputs: files.map((file, k) => inputOf(file, k, {segments, shows})), segments, dictionary,
-      slots,
-    edges: edgesOf(segments, host.slot), blocks: map.blocks, host: host.slot,
-      data: dataOf(map, host, isBig), fault: null,
+    inputs: files.map((file, k) => inputOf(file, k, {segments, shows})),
+    segments,
+    dictionary,
+    slots,
+    edges: edgesOf(segments, host.slot),
+    blocks: map.blocks,
+    host: host.slot,
+    data: dataOf(map, host, isBig),
+    fault: null,
     changes: sum(segments.map(({changes}) => changes.length)),
     unlisted: sum([...segments, dictionary].map(({unlisted}) => unlisted)),
   };
@@ -268,8 +327,9 @@ function entryIn(report, {file, slot}) {
  */
 function placesOfRecord({address, length, records}, {number, record, reference}, size) {
   const before = sizeOfRecords(records.slice(0, record)), first = behind(address, length) + before;
-  const bytes = number === CUT ? size - first : records[record] ? sizeOfRecord(records[record])
-    : RECORD;
+  const bytes = number === CUT ? size - first :
+    records[record]            ? sizeOfRecord(records[record]) :
+                                 RECORD;
   const operand = reference === null ? undefined : records[record]?.references?.[reference];
   const code = operand === undefined ? [] : [{first: BLOCK * address + operand, size: 2}];
   const end = {first: Math.max(0, size - 1), size: 1}; // where the file ends before the record
@@ -284,8 +344,8 @@ function placesOf(show, fault, entry, size) {
   const line = show?.slots[entry ?? -1], whole = [{first: 0, size}];
   if (!line) return whole;
   if (fault.record !== null && line.records?.length) return placesOfRecord(line, fault, size);
-  const isOfCode = OF_A_CODE.includes(fault.number) && line.address > 0
-    && BLOCK * line.address < size;
+  const isOfCode =
+    OF_A_CODE.includes(fault.number) && line.address > 0 && BLOCK * line.address < size;
   if (isOfCode) return [{first: BLOCK * line.address, size: line.length}];
   return fieldsOf(entry).map(({at, size: bytes}) => ({first: at, size: bytes}));
 }
@@ -296,8 +356,10 @@ const CUT = 19, OF_A_CODE = [16, 17, 18, 26, 27];
 /** What the fault is about, in words. */
 function toldOfFault({record, reference}, entry, show) {
   const name = show?.slots[entry ?? -1]?.name.trimEnd() ?? "";
-  const parts = [entry === null ? "" : `entry ${entry}${name ? ` ${name}` : ""}`,
-    record === null ? "" : `record ${record}`, reference === null ? "" : `reference ${reference}`];
+  const parts = [
+    entry === null ? "" : `entry ${entry}${name ? ` ${name}` : ""}`,
+    record === null ? "" : `record ${record}`, reference === null ? "" : `reference ${reference}`
+  ];
   return parts.filter(Boolean).join(", ") || "the file";
 }
 
@@ -313,17 +375,23 @@ function toldOfFault({record, reference}, entry, show) {
  */
 export function refusedPicture({shows, files, answer, line, report}) {
   const {fault: number, file = null, slot, record, reference} = answer, at = file ?? 0,
-    of = {number, file: at, slot, record, reference};
+                                                   of = {number, file: at, slot, record, reference};
   const entry = entryIn(report, of), {bytes} = files[at];
   const inputs = files.map(({name, bytes: content}, k) => {
     const size = content.length,
-      unknown = {kind: "unknown", slot: null, name: "", first: 0, size, taken: undefined};
+          unknown = {kind: "unknown", slot: null, name: "", first: 0, size, taken: undefined};
     const parts = shows[k] ? partsOf(shows[k], size, () => undefined) : size > 0 ? [unknown] : [];
-    return {file: k, name, blocks: Math.max(1, Math.ceil(size / BLOCK)), size, isUsed: k in shows,
-      parts};
+    return {
+      file: k,
+      name,
+      blocks: Math.max(1, Math.ceil(size / BLOCK)),
+      size,
+      isUsed: k in shows,
+      parts
+    };
   });
-  const places = placesOf(shows[at], of, entry, bytes.length).map(({first, size}) => ({
-    first, size: Math.max(1, Math.min(size, bytes.length - first))}));
+  const places = placesOf(shows[at], of, entry, bytes.length).map(({first,
+    size}) => ({first, size: Math.max(1, Math.min(size, bytes.length - first))}));
   return {inputs, fault: {file: at, line, places, told: toldOfFault(of, entry, shows[at])}};
 }
 
@@ -346,8 +414,8 @@ async function linkedModel(pslink, files, linked) {
 
 /** The first of the files that are refused, and the one at fault, as what the picture shows. */
 async function refusedModel(pslink, files, {answer, fault: line}, report) {
-  const shows = [], numbers = files.map((_, k) => k).filter((k) => k < DRAWN_FILES
-    || k === answer.file);
+  const shows = [],
+        numbers = files.map((_, k) => k).filter((k) => k < DRAWN_FILES || k === answer.file);
   for (const k of numbers) {
     const {done, text} = await pslink.text("show", [files[k]], {json: true});
     shows[k] = done ? JSON.parse(text) : null;

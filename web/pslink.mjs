@@ -1,6 +1,7 @@
 /*
- * The Linker of UCSD Pascal II.0 for Pascal units, over pslink.wasm: it links code files, and makes the texts that the program
- * pslink prints of them, from memory to memory. It reads no file, writes none and keeps nothing between calls.
+ * The Linker of UCSD Pascal II.0 for Pascal units, over pslink.wasm: it links code files, and makes
+ * the texts that the program pslink prints of them, from memory to memory. It reads no file, writes
+ * none and keeps nothing between calls.
  *
  *     const pslink = await load(bytesOfTheModule);
  *     const files = [{name: "host.code", bytes}, {name: "library.code", bytes: more}];
@@ -8,18 +9,20 @@
  *     if (linked.done) save(linked.bytes); else console.error(linked.fault ?? linked.status);
  *     console.log((await pslink.text("check", files)).text);
  *
- * What the module answers is proved, as pslink.h says of the library for C. This file lays files out for it and reads what it
- * answers: it is tested. Each call has an instance of its own, with its memory, so no call meets what another left.
+ * What the module answers is proved, as pslink.h says of the library for C. This file lays files
+ * out for it and reads what it answers: it is tested. Each call has an instance of its own, with
+ * its memory, so no call meets what another left.
  *
- * Any bytes may be given as a file: one that is no code file is refused. An argument of a wrong type is a TypeError. What pslink.h
- * calls misuse is the status "misuse": no file, no such text, a document of names. Where a call takes more memory than it may have,
- * or than the engine gives, the status is "no memory". Where the module traps or the engine's stack is used up, it is "trapped".
+ * Any bytes may be given as a file: one that is no code file is refused. An argument of a wrong
+ * type is a TypeError. What pslink.h calls misuse is the status "misuse": no file, no such text, a
+ * document of names. Where a call takes more memory than it may have, or than the engine gives, the
+ * status is "no memory". Where the module traps or the engine's stack is used up, it is "trapped".
  * After each of them the next call is as any other.
  */
 
 /**
- * A whole code file. Its bytes are not to change before the call has ended. Its name is what texts call it, "file 0" and so on where it
- * has none; half of a pair of UTF-16 in it is shown as U+FFFD.
+ * A whole code file. Its bytes are not to change before the call has ended. Its name is what texts
+ * call it, "file 0" and so on where it has none; half of a pair of UTF-16 in it is shown as U+FFFD.
  * @typedef {{name?: string, bytes: Uint8Array | ArrayBuffer}} CodeFile
  */
 
@@ -27,7 +30,8 @@
  * What the module answers, as `pslink_answer` of pslink.h; null is a part that there is not.
  * @typedef {object} Answer
  * @property {number} status the number of the status
- * @property {number} fault the number of the fault, or 0: the first of all where files are refused, and the verdict of a report or of its findings
+ * @property {number} fault the number of the fault, or 0: the first of all where files are refused,
+ * and the verdict of a report or of its findings
  * @property {number | null} file the file at fault, by its place among those that were given
  * @property {number | null} record the record in the link information of its segment, from 0
  * @property {number | null} reference the reference in its record, from 0
@@ -42,7 +46,8 @@
  */
 
 /**
- * What a call gives. A report and its findings are done also where the files are refused: `fault` is then the verdict.
+ * What a call gives. A report and its findings are done also where the files are refused: `fault`
+ * is then the verdict.
  * @typedef {object} Result
  * @property {boolean} done whether there is what was asked for
  * @property {string} status one of STATUSES
@@ -69,7 +74,13 @@ const OF_NAMES = /** @type {const} */ (["wanted", "had"]);
 
 /** The statuses by their numbers in pslink.h, and "trapped", which has none there. */
 export const STATUSES = Object.freeze({
-  0: "done", 1: "refused", 2: "misuse", 4: "no memory", 5: "too small", 6: "wrong names", trapped: "trapped",
+  0: "done",
+  1: "refused",
+  2: "misuse",
+  4: "no memory",
+  5: "too small",
+  6: "wrong names",
+  trapped: "trapped",
 });
 
 /** How many bytes a linked file has at most. */
@@ -84,7 +95,9 @@ const JSON_FORM = 256, ANSWER_SIZE = 112, NAME_SIZE = 8, FAULT_TEXT_MAX = 160;
 // room for a text; where it has more bytes, a second call has as many
 const FIRST_ROOM = 65536;
 const PAGE_SIZE = 65536, ALIGNMENT = 16;
-const FUNCTIONS = ["pslink_link_nonnull", "pslink_text_nonnull", "pslink_fault_text_nonnull", "pslink_release_number"];
+const FUNCTIONS = [
+  "pslink_link_nonnull", "pslink_text_nonnull", "pslink_fault_text_nonnull", "pslink_release_number"
+];
 
 // the name, the meaning and the remedy of each fault, from fault 1 on
 const FAULTS = [
@@ -200,7 +213,8 @@ const FAULTS = [
 ];
 
 /**
- * What there is to say of the fault of this number: its name, what it means, and what to do about it.
+ * What there is to say of the fault of this number: its name, what it means, and what to do about
+ * it.
  * @param {number} number
  * @returns {Fault | null} null where there is no such fault
  */
@@ -216,8 +230,10 @@ export function fault(number) {
  * @returns {Promise<Linker>}
  */
 export async function load(bytes, {memoryMax = MEMORY_MAX} = {}) {
-  const module = await WebAssembly.compile(await bytes), names = WebAssembly.Module.exports(module).map(({name}) => name);
-  if (!FUNCTIONS.every((name) => names.includes(name))) throw new TypeError("the module is not that of pslink.wasm");
+  const module = await WebAssembly.compile(await bytes),
+        names = WebAssembly.Module.exports(module).map(({name}) => name);
+  if (!FUNCTIONS.every((name) => names.includes(name)))
+    throw new TypeError("the module is not that of pslink.wasm");
   return new Linker(module, memoryMax);
 }
 
@@ -245,7 +261,9 @@ class Linker {
    * @returns {Promise<Result>} with `bytes`, the linked file
    */
   async link(files) {
-    return answered(() => this.#run(given(files), LINKED_MAX, (call, laid, ...rest) => call.enter("pslink_link_nonnull", ...laid.contents, ...rest)));
+    return answered(
+      () => this.#run(given(files), LINKED_MAX,
+        (call, laid, ...rest) => call.enter("pslink_link_nonnull", ...laid.contents, ...rest)));
   }
 
   /**
@@ -258,7 +276,9 @@ class Linker {
   async text(kind, files, {json = false} = {}) {
     return answered(async () => {
       const result = await this.#text(kind, files, json);
-      return result.done ? {...result, text: isOfNames(kind) ? characters(result.bytes) : decoded(result.bytes)} : result;
+      return result.done ?
+        {...result, text: isOfNames(kind) ? characters(result.bytes) : decoded(result.bytes)} :
+        result;
     });
   }
 
@@ -279,29 +299,36 @@ class Linker {
     const all = given(files);
     if (!(kind in TEXTS)) return bare(MISUSE);
     const what = TEXTS[kind] + (json ? JSON_FORM : 0);
-    const enter = (call, laid, ...rest) => call.enter("pslink_text_nonnull", what, ...laid.contents, ...laid.names, ...rest);
+    const enter = (call, laid, ...rest) =>
+      call.enter("pslink_text_nonnull", what, ...laid.contents, ...laid.names, ...rest);
     const result = await this.#run(all, FIRST_ROOM, enter);
     return result.answer.status === TOO_SMALL ? this.#run(all, result.answer.size, enter) : result;
   }
 
-  /** What a function of the module answers of files, which has so many bytes of room for what it makes. */
+  /**
+   * What a function of the module answers of files, which has so many bytes of room for what it
+   * makes.
+   */
   async #run(files, room, enter) {
     if (files.length === 0) return bare(MISUSE);
-    const call = await this.#begin(), laid = call.lay(files), answer = call.take(ANSWER_SIZE), out = call.take(room);
+    const call = await this.#begin(), laid = call.lay(files), answer = call.take(ANSWER_SIZE),
+          out = call.take(room);
     enter(call, laid, BigInt(out), BigInt(room), BigInt(answer));
     return call.result(answer, out);
   }
 
   async #begin() {
     const call = new Call(this.#memoryMax);
-    call.begin(await WebAssembly.instantiate(this.#module, {heap: {page_alloc: call.allocate, page_dealloc: call.free}}));
+    call.begin(await WebAssembly.instantiate(
+      this.#module, {heap: {page_alloc: call.allocate, page_dealloc: call.free}}));
     return call;
   }
 }
 
 /*
- * One call, and the memory of its instance: the stack of the module and its constants are below `__heap_base`, and what is above is
- * given out from there on. What the module gives back is not given out again: all of it goes with the call.
+ * One call, and the memory of its instance: the stack of the module and its constants are below
+ * `__heap_base`, and what is above is given out from there on. What the module gives back is not
+ * given out again: all of it goes with the call.
  */
 class Call {
   #exports;
@@ -328,7 +355,10 @@ class Call {
     }
   }
 
-  /** The place of so many bytes that nothing else has, aligned to 16; null where there is no memory. */
+  /**
+   * The place of so many bytes that nothing else has, aligned to 16; null where there is no
+   * memory.
+   */
   #placeOf(size) {
     const place = Math.ceil(this.#next / ALIGNMENT) * ALIGNMENT, end = place + size;
     if (!(end <= this.#limit) || !this.#reaches(end)) return null;
@@ -355,10 +385,11 @@ class Call {
     return place;
   }
 
-  // What the module calls for memory: where the answer is put, a size, and an alignment of at most 16. The answer is whether there is
-  // memory, and 8 bytes on the place of it.
+  // What the module calls for memory: where the answer is put, a size, and an alignment of at
+  // most 16. The answer is whether there is memory, and 8 bytes on the place of it.
   allocate = (answer, size) => {
-    const place = this.#placeOf(Math.max(Number(size), 1)), view = new DataView(this.#memory.buffer), at = Number(answer);
+    const place = this.#placeOf(Math.max(Number(size), 1)),
+          view = new DataView(this.#memory.buffer), at = Number(answer);
     view.setUint8(at, place === null ? 0 : 1);
     view.setBigUint64(at + 8, BigInt(place ?? ALIGNMENT), true);
   };
@@ -371,13 +402,21 @@ class Call {
 
   /** Files as the functions of the module take them: their contents, and their names. */
   lay(files) {
-    const contents = files.map(({bytes}) => bytes), [host, hostLength] = this.#layAll(contents.slice(0, 1));
-    return {contents: [host, hostLength, ...this.#layAll(contents.slice(1))], names: this.#layAll(files.map(({name}) => name))};
+    const contents = files.map(({bytes}) => bytes),
+          [host, hostLength] = this.#layAll(contents.slice(0, 1));
+    return {
+      contents: [host, hostLength, ...this.#layAll(contents.slice(1))],
+      names: this.#layAll(files.map(({name}) => name))
+    };
   }
 
-  /** Lays parts one after another, and then their lengths: the place and the bytes of all, the place of the lengths and how many. */
+  /**
+   * Lays parts one after another, and then their lengths: the place and the bytes of all, the
+   * place of the lengths and how many.
+   */
   #layAll(parts) {
-    const total = parts.reduce((sum, part) => sum + part.length, 0), place = this.take(total), table = this.take(8 * parts.length);
+    const total = parts.reduce((sum, part) => sum + part.length, 0), place = this.take(total),
+          table = this.take(8 * parts.length);
     const lengths = new DataView(this.#memory.buffer, table, 8 * parts.length);
     let at = place;
     parts.forEach((part, k) => {
@@ -390,7 +429,8 @@ class Call {
 
   /** What a caller is given, of the answer and of what was made. */
   result(place, out) {
-    const answer = this.#read(place), result = {done: answer.status === DONE, status: STATUSES[answer.status], answer};
+    const answer = this.#read(place),
+          result = {done: answer.status === DONE, status: STATUSES[answer.status], answer};
     if (result.done) result.bytes = this.#bytes(out, answer.size).slice();
     if (answer.fault !== 0) result.fault = this.#faultLine(place);
     return result;
@@ -409,7 +449,8 @@ class Call {
 
   #faultLine(answer) {
     const place = this.take(FAULT_TEXT_MAX);
-    const size = this.enter("pslink_fault_text_nonnull", BigInt(answer), BigInt(place), BigInt(FAULT_TEXT_MAX));
+    const size = this.enter(
+      "pslink_fault_text_nonnull", BigInt(answer), BigInt(place), BigInt(FAULT_TEXT_MAX));
     // (the last byte is the closing 0)
     return characters(this.#bytes(place, Number(size) - 1));
   }
@@ -418,7 +459,8 @@ class Call {
 /** The module trapped, or the stack of the engine was used up. */
 class Trap extends Error {}
 
-const isTrap = (error) => error instanceof WebAssembly.RuntimeError || error instanceof RangeError || error?.name === "InternalError";
+const isTrap = (error) => error instanceof WebAssembly.RuntimeError ||
+  error instanceof RangeError || error?.name === "InternalError";
 
 const isOutOfMemory = (error) => error instanceof RangeError || error === "out of memory";
 
@@ -427,7 +469,8 @@ async function answered(work) {
   try {
     return await work();
   } catch (error) {
-    if (error instanceof Trap) return {done: false, status: STATUSES.trapped, answer: null, reason: error.message};
+    if (error instanceof Trap)
+      return {done: false, status: STATUSES.trapped, answer: null, reason: error.message};
     if (isOutOfMemory(error)) return bare(NO_MEMORY);
     throw error;
   }
@@ -443,7 +486,8 @@ function bare(status) {
 /** The bytes of each file and of its name. */
 function given(files) {
   if (!Array.isArray(files)) throw new TypeError("the files are no array");
-  return Array.from(files, (file, k) => ({bytes: bytesOf(file?.bytes, k), name: nameOf(file.name ?? `file ${k}`, k)}));
+  return Array.from(files,
+    (file, k) => ({bytes: bytesOf(file?.bytes, k), name: nameOf(file.name ?? `file ${k}`, k)}));
 }
 
 // (of any window: a class of another one is not the same)
@@ -466,14 +510,19 @@ const isOfNames = (kind) => OF_NAMES.includes(kind);
 /** Bytes as characters, one for each. */
 const characters = (bytes) => String.fromCharCode(...bytes);
 
-/** Bytes of UTF-8 as characters; no text begins with a name as it is, which could have a mark of the order of bytes. */
+/**
+ * Bytes of UTF-8 as characters; no text begins with a name as it is, which could have a mark of
+ * the order of bytes.
+ */
 const decoded = (bytes) => new TextDecoder().decode(bytes);
 
-// What follows is for node, which may run this file as a program: the words after its name are then a command. (The names of modules
-// are made here, so that neither a page nor a bundler looks for them.)
+// What follows is for node, which may run this file as a program: the words after its name are then
+// a command. (The names of modules are made here, so that neither a page nor a bundler looks for
+// them.)
 async function isProgram(process) {
   if (!process?.argv?.[1]) return false;
-  const [{realpathSync}, {pathToFileURL}] = await Promise.all(["fs", "url"].map((name) => import(/* webpackIgnore: true */ /* @vite-ignore */ `node:${name}`)));
+  const [{realpathSync}, {pathToFileURL}] = await Promise.all(["fs", "url"].map(
+    (name) => import(/* webpackIgnore: true */ /* @vite-ignore */ `node:${name}`)));
   try {
     return pathToFileURL(realpathSync(process.argv[1])).href === import.meta.url;
   } catch {
@@ -484,12 +533,14 @@ async function isProgram(process) {
 async function runAsProgram(process) {
   if (!await isProgram(process)) return;
   const command = "command";
-  const {main} = await import(/* webpackIgnore: true */ /* @vite-ignore */ `./${command}.mjs`).catch(() => ({main: isAlone}));
+  const {main} = await import(/* webpackIgnore: true */ /* @vite-ignore */ `./${command}.mjs`)
+                   .catch(() => ({main: isAlone}));
   process.exitCode = await main(process.argv.slice(2));
 }
 
 function isAlone() {
-  globalThis.process.stderr.write("pslink: the files of the command, command.mjs and others, are not beside pslink.mjs\n");
+  globalThis.process.stderr.write(
+    "pslink: the files of the command, command.mjs and others, are not beside pslink.mjs\n");
   return 70;
 }
 

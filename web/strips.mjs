@@ -75,34 +75,37 @@ function areaOf({x, y, width, unit, height = unit}, first, size, least = 0) {
  */
 function markOf(strip, first, size) {
   const {y, width, unit} = strip;
-  return areaOf({...strip, y: y + unit * (1 - MARK), height: unit * MARK}, first, size,
-    width / MARKS);
+  return areaOf(
+    {...strip, y: y + unit * (1 - MARK), height: unit * MARK}, first, size, width / MARKS);
 }
 
 /** The top and the bottom of the rows of some bytes. */
-const rowsOf = ({y, unit}, first, size) =>
-  [y + unit * first / BLOCK, y + unit * Math.ceil((first + size) / BLOCK)];
+const rowsOf = ({y, unit}, first,
+  size) => [y + unit * first / BLOCK, y + unit * Math.ceil((first + size) / BLOCK)];
 
 /** The paper of a strip, with a line between two blocks where they are high enough. */
 function paperOf({x, y, width, unit}, blocks) {
   const between = unit < 4 ? [] : Array.from({length: blocks - 1}, (_, k) => y + unit * (k + 1));
   const lines = between.map((at) => `M${x} ${at.toFixed(2)}h${width}`).join("");
-  return [drawn("rect", {x, y, width, height: unit * blocks, className: "paper"}),
-    path("rows", lines)];
+  return [
+    drawn("rect", {x, y, width, height: unit * blocks, className: "paper"}), path("rows", lines)
+  ];
 }
 
 // ---- A file that is linked
 
 function toldOfCode({name, size, taken}) {
   const code = `${name}: ${counted(size, "byte")} of code`;
-  return taken === undefined ? code
-    : `${code}, ${taken === null ? "not taken" : `to slot ${taken}`}`;
+  return taken === undefined ? code :
+                               `${code}, ${taken === null ? "not taken" : `to slot ${taken}`}`;
 }
 
 const toldOfPart = (part) => ({
-  dictionary: "the segment dictionary", text: `${part.name}: interface text`,
-    code: toldOfCode(part),
-  links: `${part.name}: link information, ${counted(part.size, "byte")}`, unknown: "no code file",
+  dictionary: "the segment dictionary",
+  text: `${part.name}: interface text`,
+  code: toldOfCode(part),
+  links: `${part.name}: link information, ${counted(part.size, "byte")}`,
+  unknown: "no code file",
 }[part.kind]);
 
 const isLeft = ({kind, taken}) => kind === "code" && taken === null;
@@ -110,8 +113,9 @@ const isLeft = ({kind, taken}) => kind === "code" && taken === null;
 function inputStrip(strip, {file, parts, blocks}) {
   const areas = parts.map((part) => drawn("path", {
     className: `${part.kind}${isLeft(part) ? " left" : ""}`,
-      d: areaOf(strip, part.first, part.size, 2)},
-  drawn("title", {}, toldOfPart(part))));
+    d: areaOf(strip, part.first, part.size, 2)
+  },
+                            drawn("title", {}, toldOfPart(part))));
   return drawn("g", {className: `strip ${colourOf(file)}`}, ...paperOf(strip, blocks), ...areas);
 }
 
@@ -125,16 +129,17 @@ function inputTitle({x, y}, {file, name}, room) {
 function inputLabels(strip, {parts}) {
   const codes = parts.filter(({kind}) => kind === "code");
   if (codes.length === 0) return [];
-  const middles = codes.map(({first, size}) => rowsOf(strip, first, size)).map(([top, end]) =>
-    (top + end) / 2);
+  const middles =
+    codes.map(({first, size}) => rowsOf(strip, first, size)).map(([top, end]) => (top + end) / 2);
   const last = parts.at(-1), end = rowsOf(strip, last.first, last.size)[1] + 6;
   const lowest = Math.max(end, strip.y + LABEL * codes.length);
   const places = spread(middles.map((middle) => middle + 4), LABEL, strip.y + 9, lowest);
-  return codes.map((part, k) => drawn("g", {className: isLeft(part) ? "leftover" : ""},
-    path("leader", `M${strip.x - 3} ${middles[k]}L${strip.x - 12} ${places[k] - 4}`),
-    written(strip.x - 15, places[k], "small",
-      `${isLeft(part) ? "not taken: " : ""}${twoDigits(part.slot)} ${part.name}`,
-      {"text-anchor": "end"})));
+  return codes.map(
+    (part, k) => drawn("g", {className: isLeft(part) ? "leftover" : ""},
+      path("leader", `M${strip.x - 3} ${middles[k]}L${strip.x - 12} ${places[k] - 4}`),
+      written(strip.x - 15, places[k], "small",
+        `${isLeft(part) ? "not taken: " : ""}${twoDigits(part.slot)} ${part.name}`,
+        {"text-anchor": "end"})));
 }
 
 // ---- The linked file
@@ -142,8 +147,10 @@ function inputLabels(strip, {parts}) {
 /** What a segment is, in words, for a reader of screens. */
 function toldOf({slot, name, role, file, length, stores}, {inputs, dictionary}) {
   const size = counted(length, "byte");
-  if (slot === dictionary.slot) return `Block 0, the segment dictionary, ${size}, ${counted(stores.length, "field")} changed`;
-  return `Slot ${slot}, ${name}, ${role}, from ${shownName(inputs[file].name)}, ${size}, ${counted(stores.length, "place")} stored`;
+  if (slot === dictionary.slot)
+    return `Block 0, the segment dictionary, ${size}, ${counted(stores.length, "field")} changed`;
+  return `Slot ${slot}, ${name}, ${role}, from ${shownName(inputs[file].name)}, ${size}, ${
+    counted(stores.length, "place")} stored`;
 }
 
 /**
@@ -153,60 +160,74 @@ function toldOf({slot, name, role, file, length, stores}, {inputs, dictionary}) 
 function choiceOf(strip, segment, place, {model, width}, parts, label) {
   const {slot, file, block, length} = segment, right = strip.x + strip.width;
   const [top, bottom] = rowsOf(strip, BLOCK * block, length),
-    middle = (top + Math.min(bottom, top + strip.unit * 3)) / 2;
+              middle = (top + Math.min(bottom, top + strip.unit * 3)) / 2;
   const above = `M${strip.x} ${top}H${right}L${right + 14} ${place - 12}H${width}V${place + 5}`;
-  const frame = {x: strip.x - 1, y: top - 1, width: strip.width + 2, height: bottom - top + 2,
-    rx: 2};
-  return drawn("g", {className: `segment of-slot choice ${colourOf(file)}`, "data-slot": slot,
-    role: "radio", "aria-checked": "false", tabindex: -1, "aria-label": toldOf(segment, model)},
-  path("hit", `${above}H${right + 14}L${right} ${bottom}H${strip.x}z`), ...parts,
-  drawn("rect", {className: "frame", ...frame}),
-  path("leader", `M${right + 3} ${middle}L${right + 13} ${place - 4}`), ...label(right));
+  const frame =
+    {x: strip.x - 1, y: top - 1, width: strip.width + 2, height: bottom - top + 2, rx: 2};
+  return drawn("g", {
+    className: `segment of-slot choice ${colourOf(file)}`,
+    "data-slot": slot,
+    role: "radio",
+    "aria-checked": "false",
+    tabindex: -1,
+    "aria-label": toldOf(segment, model)
+  },
+    path("hit", `${above}H${right + 14}L${right} ${bottom}H${strip.x}z`), ...parts,
+    drawn("rect", {className: "frame", ...frame}),
+    path("leader", `M${right + 3} ${middle}L${right + 13} ${place - 4}`), ...label(right));
 }
 
 /** A segment that can be chosen: its code, its tables, and the places that the link stores. */
 function linkedSegment(strip, segment, place, size) {
   const {slot, name, block, length, stores, tables} = segment, first = BLOCK * block;
-  const facts = `${counted(length, "byte")}${stores.length ? `, ${grouped(stores.length)} stored` : ""}`;
-  const parts = [path("code", areaOf(strip, first, length, 2)),
+  const facts =
+    `${counted(length, "byte")}${stores.length ? `, ${grouped(stores.length)} stored` : ""}`;
+  const parts = [
+    path("code", areaOf(strip, first, length, 2)),
     path("tables", tables.map(([from, end]) => areaOf(strip, first + from, end - from)).join("")),
-    path("marks", stores.map(({at, size: bytes}) => markOf(strip, first + at, bytes)).join(""))];
-  return choiceOf(strip, segment, place, size, parts, (right) => [
-    written(right + 17, place, "name", `${twoDigits(slot)} ${name}`),
-    ...(size.isWide ? [written(right + 102, place, "quiet", facts)] : [])]);
+    path("marks", stores.map(({at, size: bytes}) => markOf(strip, first + at, bytes)).join(""))
+  ];
+  return choiceOf(strip, segment, place, size, parts,
+    (right) => [written(right + 17, place, "name", `${twoDigits(slot)} ${name}`),
+      ...(size.isWide ? [written(right + 102, place, "quiet", facts)] : [])]);
 }
 
 /** Block 0, which can be chosen too. */
 function linkedDictionary(strip, {dictionary}, place, size) {
-  const parts = [path("dictionary", areaOf(strip, 0, BLOCK)),
-    path("marks", dictionary.stores.map(({at, size: bytes}) => markOf(strip, at, bytes)).join(""))];
+  const parts = [
+    path("dictionary", areaOf(strip, 0, BLOCK)),
+    path("marks", dictionary.stores.map(({at, size: bytes}) => markOf(strip, at, bytes)).join(""))
+  ];
   const facts = `${counted(dictionary.stores.length, "field")} changed`;
-  return choiceOf(strip, dictionary, place, size, parts, (right) => [
-    written(right + 17, place, "name plain", "dictionary"),
-    ...(size.isWide ? [written(right + 102, place, "quiet", facts)] : [])]);
+  return choiceOf(strip, dictionary, place, size, parts,
+    (right) => [written(right + 17, place, "name plain", "dictionary"),
+      ...(size.isWide ? [written(right + 102, place, "quiet", facts)] : [])]);
 }
 
 /** A band from the rows at the left to those at the right. */
 function band(x0, [top0, bottom0], x1, [top1, bottom1], {slot, file}) {
   const x = (x0 + x1) / 2, there = `C${x} ${top0} ${x} ${top1} ${x1} ${top1}`;
   const back = `C${x} ${bottom1} ${x} ${bottom0} ${x0} ${bottom0}`,
-    d = `M${x0} ${top0}${there}L${x1} ${bottom1}${back}Z`;
+        d = `M${x0} ${top0}${there}L${x1} ${bottom1}${back}Z`;
   return path(`band of-slot ${colourOf(file)}`, d, {"data-slot": slot});
 }
 
 // ---- The panels
 
-const LEGEND = [["code", "code"], ["tables", "its tables"], ["marks", "stored by the link"],
-  ["links", "link information"],
-  ["text", "interface text"], ["left", "code not taken"]];
-const REFUSED_LEGEND = [["code", "code"], ["links", "link information"], ["text", "interface text"],
-  ["unknown", "no code file"], ["fault", "what the fault is about"]];
+const LEGEND = [
+  ["code", "code"], ["tables", "its tables"], ["marks", "stored by the link"],
+  ["links", "link information"], ["text", "interface text"], ["left", "code not taken"]
+];
+const REFUSED_LEGEND = [
+  ["code", "code"], ["links", "link information"], ["text", "interface text"],
+  ["unknown", "no code file"], ["fault", "what the fault is about"]
+];
 
 function sign(kind, box) {
-  const tick = {x: box.x + 8, y: box.y + 4, width: 1.6, height: 8}, isOver = kind === "tables"
-    || kind === "marks";
-  const under = ["paper", ...(isOver ? ["code"] : [])].map((className) =>
-    drawn("rect", {...box, className}));
+  const tick = {x: box.x + 8, y: box.y + 4, width: 1.6, height: 8},
+        isOver = kind === "tables" || kind === "marks";
+  const under =
+    ["paper", ...(isOver ? ["code"] : [])].map((className) => drawn("rect", {...box, className}));
   const className = kind === "left" ? "code left" : kind;
   return drawn("g", {className: "strip f0"}, ...under,
     drawn("rect", {...(kind === "marks" ? tick : box), className}));
@@ -219,8 +240,8 @@ export function legend(width, y, isRefused = false) {
   for (const [kind, words] of isRefused ? REFUSED_LEGEND : LEGEND) {
     const size = 36 + words.length * 6.3;
     if (x + size > width + 12) [x, line] = [0, line + LINE];
-    nodes.push(sign(kind, {x, y: line - 10, width: 18, height: 12}),
-      written(x + 23, line, "quiet", words));
+    nodes.push(
+      sign(kind, {x, y: line - 10, width: 18, height: 12}), written(x + 23, line, "quiet", words));
     x += size;
   }
   return {nodes, bottom: line};
@@ -232,7 +253,7 @@ export function legend(width, y, isRefused = false) {
  */
 function inputs({inputs: all, fault}, {left, width, unit, room, isWide}, y) {
   const used = all.filter(({isUsed}) => isUsed), unused = all.filter(({isUsed}) => !isUsed),
-    rest = unused.length - UNUSED_MAX;
+        rest = unused.length - UNUSED_MAX;
   const strips = new Map(), nodes = [];
   let next = y;
   for (const input of used) {
@@ -243,29 +264,32 @@ function inputs({inputs: all, fault}, {left, width, unit, room, isWide}, y) {
     next = strip.y + unit * input.blocks + GAP;
   }
   const why = fault ? "" : ": nothing is taken";
-  const told = unused.slice(0, UNUSED_MAX).map(({file, name}) =>
-    `${file} ${shownName(name)}${why}`);
+  const told =
+    unused.slice(0, UNUSED_MAX).map(({file, name}) => `${file} ${shownName(name)}${why}`);
   if (rest > 0) told.push(`and ${counted(rest, "more file")}`);
-  const lines = told.map((words, k) =>
-    written(left, next + LINE * (k + 1) - 4, "quiet", cut(words, Math.floor(room / LETTER))));
+  const lines = told.map((words, k) => written(left, next + LINE * (k + 1) - 4, "quiet",
+                           cut(words, Math.floor(room / LETTER))));
   return {strips, nodes: [...nodes, ...lines], bottom: next + LINE * lines.length};
 }
 
 /** Where the strip of the linked file is, and how wide those at the left are. */
 function roomOf({width, isWide}, unit) {
   const left = isWide ? 150 : 0;
-  const out = isWide ? {x: width * 0.75 - LABELS_WIDE, y: 0, width: width * 0.25, unit}
-    : {x: width * 0.43, y: 0, width: Math.min(width * 0.27, width * 0.57 - LABELS), unit};
-  return {out, ins: {left, width: width * (isWide ? 0.2 : 0.28), unit, room: out.x - left - 14,
-    isWide}};
+  const out = isWide ?
+    {x: width * 0.75 - LABELS_WIDE, y: 0, width: width * 0.25, unit} :
+    {x: width * 0.43, y: 0, width: Math.min(width * 0.27, width * 0.57 - LABELS), unit};
+  return {
+    out,
+    ins: {left, width: width * (isWide ? 0.2 : 0.28), unit, room: out.x - left - 14, isWide}
+  };
 }
 
 /** The bands of all segments. */
 function bandsOf(model, strips, ins, out) {
   return model.segments.map((segment) => {
     const {file, entry, block, length} = segment, strip = strips.get(file);
-    const {first} = model.inputs[file].parts.find(({kind, slot}) => kind === "code"
-      && slot === entry);
+    const {first} =
+      model.inputs[file].parts.find(({kind, slot}) => kind === "code" && slot === entry);
     return band(ins.left + ins.width, rowsOf(strip, first, length), out.x,
       rowsOf(out, BLOCK * block, length), segment);
   });
@@ -279,33 +303,42 @@ function bandsOf(model, strips, ins, out) {
  */
 export function stripsOf(model, size, y) {
   const {segments, blocks} = model,
-    rows = model.inputs.reduce((all, input) => all + (input.isUsed ? input.blocks : 0), 0);
+                   rows = model.inputs.reduce(
+                     (all, input) => all + (input.isUsed ? input.blocks : 0), 0);
   const unit = Math.min(ROW_MAX, HEIGHT / Math.max(rows, blocks, segments.length + 1)),
-    {out, ins} = roomOf(size, unit);
+        {out, ins} = roomOf(size, unit);
   const before = inputs(model, ins, y), high = unit * blocks,
-    tall = Math.max(high, LINE * (segments.length + 1));
+        tall = Math.max(high, LINE * (segments.length + 1));
   const bottom = Math.max(before.bottom, y + HEAD + tall);
   out.y = y + HEAD + (bottom - y - HEAD - high) / 2; // in the middle of the height
-  const middles = segments.map(({block, length}) =>
-    rowsOf(out, BLOCK * block, Math.min(length, BLOCK * 3)))
-    .map(([top, end]) => (top + end) / 2 + 4);
-  const [place, ...places] = spread([out.y + unit / 2 + 4, ...middles], LINE, y + HEAD + 10,
-    bottom);
+  const middles =
+    segments.map(({block, length}) => rowsOf(out, BLOCK * block, Math.min(length, BLOCK * 3)))
+      .map(([top, end]) => (top + end) / 2 + 4);
+  const [place, ...places] =
+    spread([out.y + unit / 2 + 4, ...middles], LINE, y + HEAD + 10, bottom);
   const title = `${size.isWide ? "The linked file" : "Linked"}, ${counted(blocks, "block")}`,
-    given = {model, ...size};
-  const choices = [linkedDictionary(out, model, place, given),
-    ...segments.map((segment, k) => linkedSegment(out, segment, places[k], given))];
-  return {bottom, strip: out, nodes: [...bandsOf(model, before.strips, ins, out), ...before.nodes,
-    written(out.x, Math.min(out.y, place - 6) - 8, "title", title),
+        given = {model, ...size};
+  const choices = [
+    linkedDictionary(out, model, place, given),
+    ...segments.map((segment, k) => linkedSegment(out, segment, places[k], given))
+  ];
+  return {
+    bottom,
+    strip: out,
+    nodes: [
+      ...bandsOf(model, before.strips, ins, out), ...before.nodes,
+      written(out.x, Math.min(out.y, place - 6) - 8, "title", title),
       drawn("g", {className: "strip"}, ...paperOf(out, blocks)),
-    drawn("g", {role: "radiogroup", "aria-label": "Segments of the linked file"}, ...choices),
-      path("here", "")]};
+      drawn("g", {role: "radiogroup", "aria-label": "Segments of the linked file"}, ...choices),
+      path("here", "")
+    ]
+  };
 }
 
 /** The words beside a fault, in lines. */
 function faultWords({line, told}, x, y, letters) {
-  return [cut(told, letters), cut(`${line}.`, letters)].map((words, k) =>
-    written(x, y + LINE * k, k ? "quiet" : "wrong", words));
+  return [cut(told, letters), cut(`${line}.`, letters)].map(
+    (words, k) => written(x, y + LINE * k, k ? "quiet" : "wrong", words));
 }
 
 /**
@@ -317,19 +350,23 @@ function faultWords({line, told}, x, y, letters) {
 export function refusedStrips(model, size, y) {
   const rows = model.inputs.reduce((all, input) => all + (input.isUsed ? input.blocks : 0), 0);
   const unit = Math.min(ROW_MAX, HEIGHT / Math.max(rows, 1)), {ins} = roomOf(size, unit),
-    {fault} = model;
+        {fault} = model;
   const width = size.width * (size.isWide ? 0.4 : 0.5),
-    before = inputs(model, {...ins, width, room: size.width - ins.left}, y);
+        before = inputs(model, {...ins, width, room: size.width - ins.left}, y);
   const strip = before.strips.get(fault.file), places = fault.places,
-    {first, size: bytes} = places[0];
+        {first, size: bytes} = places[0];
   const [top, end] = rowsOf(strip, first, bytes), right = strip.x + strip.width,
-    middle = (top + end) / 2;
+              middle = (top + end) / 2;
   const letters = Math.floor((size.width - right - 24) / BOLD),
-    lit = places.map((one) => areaOf(strip, one.first, one.size, 4)).join("");
+        lit = places.map((one) => areaOf(strip, one.first, one.size, 4)).join("");
   const words = faultWords(fault, right + 20, Math.max(middle, strip.y + 8), letters);
-  return {bottom: Math.max(before.bottom, middle + 2 * LINE),
-    nodes: [...before.nodes, path("fault", lit),
-    path("leader wrong", `M${right + 2} ${middle}H${right + 16}`), ...words]};
+  return {
+    bottom: Math.max(before.bottom, middle + 2 * LINE),
+    nodes: [
+      ...before.nodes, path("fault", lit),
+      path("leader wrong", `M${right + 2} ${middle}H${right + 16}`), ...words
+    ]
+  };
 }
 
 /** The path of two points at a byte of a strip, one above its row and one below it. */

@@ -1,23 +1,26 @@
 /*
- * Volumes of the p-System: reads the directory of an image of a disk, takes files off it, and puts a code file onto a copy
- * of it. It reads and writes no file of its own, and needs nothing but the language, so it works in a page too.
+ * Volumes of the p-System: reads the directory of an image of a disk, takes files off it, and puts
+ * a code file onto a copy of it. It reads and writes no file of its own, and needs nothing but the
+ * language, so it works in a page too.
  *
  *     const volume = openVolume(bytesOfTheImage);
  *     const host = volume.take("HOST.CODE");
  *     const {image} = volume.put("DEMO.CODE", linked);
  *
- * The bytes of the image are kept and never changed: whoever gives them leaves them as they are while the volume is used.
- * docs/VOLUMES.md has the formats and the rules.
+ * The bytes of the image are kept and never changed: whoever gives them leaves them as they are
+ * while the volume is used. docs/VOLUMES.md has the formats and the rules.
  */
 
 const BLOCK = 512, SECTOR = 256, TRACK = 4096, TRACK_SECTORS = 16;
-const ENTRY = 26, DIRECTORY_BLOCKS = 4, FIRST_DIRECTORY = 2, DUPLICATE_DIRECTORY = 6, DUPLICATE_END = 10;
+const ENTRY = 26, DIRECTORY_BLOCKS = 4, FIRST_DIRECTORY = 2, DUPLICATE_DIRECTORY = 6,
+      DUPLICATE_END = 10;
 const FILES_MAX = 77, VOLUME_NAME_MAX = 7, FILE_NAME_MAX = 15, BAD_BLOCKS_KIND = 1, CODE_KIND = 2;
 const TWO_IMG_HEADER = 64, DISK_COPY_HEADER = 84, DISK_COPY_CHECKSUM = 72;
 const DISK_TRACKS = [35, 40], NIBBLE_SIZES = [232960, 223440];
 
 const IN_BLOCKS = "Make an image of it that has its blocks in order.";
-const KINDS = ["untyped", "bad blocks", "code", "text", "info", "data", "graf", "foto", "securedir"];
+const KINDS =
+  ["untyped", "bad blocks", "code", "text", "info", "data", "graf", "foto", "securedir"];
 
 // which sector of a track of the image each half block of the track is
 const IN_ORDER = [0, 1, 2, 3, 4, 5, 6, 7, 8, 9, 10, 11, 12, 13, 14, 15];
@@ -56,8 +59,9 @@ export function isVolume(bytes) {
 }
 
 /**
- * Finds the format of an image and the directory of the volume in it. A volume whose directory is not sound is opened to take
- * files off it, and `flaws` says what is not sound: nothing is put onto it.
+ * Finds the format of an image and the directory of the volume in it. A volume whose directory is
+ * not sound is opened to take files off it, and `flaws` says what is not sound: nothing is put onto
+ * it.
  * @param {Uint8Array | ArrayBuffer} bytes
  * @returns {Volume}
  * @throws {VolumeError} if there is no directory
@@ -90,7 +94,10 @@ class Volume {
     this.blocks = directory.blocks;
     /** Whether there is a duplicate directory. @type {boolean} */
     this.duplicate = directory.hasDuplicate;
-    /** What is not sound: sentences. Where there is one, nothing is put onto the volume. @type {readonly string[]} */
+    /**
+     * What is not sound: sentences. Where there is one, nothing is put onto the
+     * volume. @type {readonly string[]}
+     */
     this.flaws = Object.freeze(flaws);
     /** What else a person may want to know of the image: sentences. @type {readonly string[]} */
     this.notes = Object.freeze(notes);
@@ -111,23 +118,28 @@ class Volume {
     const file = this.files.includes(wanted) ? wanted : this.#named(wanted);
     if (!file) throw new VolumeError(`The volume ${this.name} has no file ${shown(wanted)}.`);
     if (file.next > this.#image.blocks) {
-      throw new VolumeError(`The file ${file.name} ends before block ${file.next}, and the image has ${this.#image.blocks} blocks.`);
+      throw new VolumeError(`The file ${file.name} ends before block ${
+        file.next}, and the image has ${this.#image.blocks} blocks.`);
     }
     return this.#image.read(file.first, file.next - file.first).slice(0, file.size);
   }
 
   /**
-   * Puts a code file onto a copy of the image: in place of the file of that name, or as a new one. Only free blocks and the blocks
-   * of the file that it replaces are written, and the directory.
+   * Puts a code file onto a copy of the image: in place of the file of that name, or as a new one.
+   * Only free blocks and the blocks of the file that it replaces are written, and the directory.
    * @param {string} name
    * @param {Uint8Array | ArrayBuffer} bytes
-   * @param {{date?: DiskDate | null}} [options] the date of the entry: today, if none is given; null for no date
+   * @param {{date?: DiskDate | null}} [options] the date of the entry: today, if none is given;
+   *   null for no date
    * @returns {{image: Uint8Array, first: number, blocks: number, replaced: boolean}}
-   * @throws {VolumeError} if there is no room, or the name or the directory allows no file: nothing is made then
+   * @throws {VolumeError} if there is no room, or the name or the directory allows no file: nothing
+   *   is made then
    */
   put(name, bytes, {date = today()} = {}) {
-    const contents = plain(bytes, "The file"), {first, blocks, old} = this.place(name, contents.length);
-    const entry = this.#directory.newEntry(capitals(name), first, blocks, contents.length - BLOCK * (blocks - 1), dateWord(date));
+    const contents = plain(bytes, "The file"),
+          {first, blocks, old} = this.place(name, contents.length);
+    const entry = this.#directory.newEntry(
+      capitals(name), first, blocks, contents.length - BLOCK * (blocks - 1), dateWord(date));
     const directory = this.#directory.with(entry, old);
     const copy = this.#image.copy();
     copy.write(first, contents, blocks);
@@ -145,46 +157,70 @@ class Volume {
    * @throws {VolumeError} as the put would
    */
   place(name, length) {
-    if (this.flaws.length) throw new VolumeError(`Nothing is put onto the volume ${this.name}, as it is not sound. ${this.flaws[0]}`);
-    if (!length) throw new VolumeError("The file has no bytes, and a file of a volume has one block at least.");
+    if (this.flaws.length)
+      throw new VolumeError(
+        `Nothing is put onto the volume ${this.name}, as it is not sound. ${this.flaws[0]}`);
+    if (!length)
+      throw new VolumeError(
+        "The file has no bytes, and a file of a volume has one block at least.");
     const old = this.#replaced(name), blocks = Math.ceil(length / BLOCK);
     return {first: this.#placeFor(blocks, old), blocks, old};
   }
 
-  /** The first file of this name, exactly or else without regard to capitals; null if there is none. */
+  /**
+   * The first file of this name, exactly or else without regard to capitals; null if there is
+   * none.
+   */
   #named(name) {
     return this.files.find((file) => file.name === name) ?? this.#allNamed(name)[0] ?? null;
   }
 
   #allNamed(name) {
-    return typeof name === "string" ? this.files.filter((file) => capitals(file.name) === capitals(name)) : [];
+    return typeof name === "string" ?
+      this.files.filter((file) => capitals(file.name) === capitals(name)) :
+      [];
   }
 
-  /** The file that one of this name is put in place of; null for a new file, whose name must be one that a new file can have. */
+  /**
+   * The file that one of this name is put in place of; null for a new file, whose name must be one
+   * that a new file can have.
+   */
   #replaced(name) {
     const had = this.#allNamed(name);
-    if (had.length > 1) throw new VolumeError(`The volume ${this.name} has ${had.length} files ${shown(name)}. Remove all but one of them.`);
-    if (had[0]?.kind === BAD_BLOCKS_KIND) throw new VolumeError(`${had[0].name} marks bad blocks, and no file is put in its place.`);
+    if (had.length > 1)
+      throw new VolumeError(`The volume ${this.name} has ${had.length} files ${
+        shown(name)}. Remove all but one of them.`);
+    if (had[0]?.kind === BAD_BLOCKS_KIND)
+      throw new VolumeError(`${had[0].name} marks bad blocks, and no file is put in its place.`);
     if (had.length === 1) return had[0];
     if (typeof name !== "string" || !/^[A-Za-z0-9._/\\-]{1,15}$/.test(name)) {
-      throw new VolumeError(`A file cannot have the name ${shown(name)}: a name has 1 to ${FILE_NAME_MAX} letters, digits and - . / \\ _.`);
+      throw new VolumeError(`A file cannot have the name ${shown(name)}: a name has 1 to ${
+        FILE_NAME_MAX} letters, digits and - . / \\ _.`);
     }
     if (this.files.length >= FILES_MAX) {
-      throw new VolumeError(`The directory of ${this.name} is full: it has ${FILES_MAX} files, and no room for another.`);
+      throw new VolumeError(`The directory of ${this.name} is full: it has ${
+        FILES_MAX} files, and no room for another.`);
     }
     return null;
   }
 
-  /** The block from which on a file of so many blocks is put: where the old one is, or else in the smallest gap that has room. */
+  /**
+   * The block from which on a file of so many blocks is put: where the old one is, or else in the
+   * smallest gap that has room.
+   */
   #placeFor(blocks, old) {
     const gaps = this.#gaps();
-    const inPlace = old ? old.next - old.first + (gaps.find((gap) => gap.first === old.next)?.blocks ?? 0) : 0;
+    const inPlace =
+      old ? old.next - old.first + (gaps.find((gap) => gap.first === old.next)?.blocks ?? 0) : 0;
     if (blocks <= inPlace) return old.first;
     const large = gaps.filter((gap) => gap.blocks >= blocks);
-    if (large.length) return large.reduce((best, gap) => (gap.blocks < best.blocks ? gap : best)).first;
-    const most = gaps.reduce((best, gap) => Math.max(best, gap.blocks), 0), free = `${most} free together, ${this.freeBlocks} in all`;
+    if (large.length)
+      return large.reduce((best, gap) => (gap.blocks < best.blocks ? gap : best)).first;
+    const most = gaps.reduce((best, gap) => Math.max(best, gap.blocks), 0),
+          free = `${most} free together, ${this.freeBlocks} in all`;
     const there = old ? ` In place of ${old.name} there is room for ${inPlace}.` : "";
-    throw new VolumeError(`The file has ${counted(blocks, "block")}, and the volume ${this.name} has ${free}.${there}`);
+    throw new VolumeError(
+      `The file has ${counted(blocks, "block")}, and the volume ${this.name} has ${free}.${there}`);
   }
 
   /** The runs of free blocks, in ascending order. */
@@ -232,13 +268,24 @@ class Directory {
   entry(number) {
     const at = ENTRY * number, word = (place) => this.#word(this.#view, at + place);
     const length = this.#bytes[at + 6], most = number === 0 ? VOLUME_NAME_MAX : FILE_NAME_MAX;
-    const name = length <= most ? String.fromCharCode(...this.#bytes.subarray(at + 7, at + 7 + length)) : null;
-    return {number, first: word(0), next: word(2), kind: word(4) & 15, length, name, lastBytes: word(22), date: word(24)};
+    const name =
+      length <= most ? String.fromCharCode(...this.#bytes.subarray(at + 7, at + 7 + length)) : null;
+    return {
+      number,
+      first: word(0),
+      next: word(2),
+      kind: word(4) & 15,
+      length,
+      name,
+      lastBytes: word(22),
+      date: word(24)
+    };
   }
 
   /** The entries of the files, as many as there are, or as a directory can have. */
   files() {
-    return Array.from({length: Math.min(this.count, FILES_MAX)}, (_, index) => this.entry(index + 1));
+    return Array.from(
+      {length: Math.min(this.count, FILES_MAX)}, (_, index) => this.entry(index + 1));
   }
 
   newEntry(name, first, blocks, lastBytes, date) {
@@ -253,7 +300,8 @@ class Directory {
   /** The bytes of the directory with a new entry, and without that of the file it replaces. */
   with(added, old) {
     const kept = this.files().filter((entry) => entry.first !== old?.first);
-    const entries = [added, ...kept.map(({number}) => this.#bytes.slice(ENTRY * number, ENTRY * (number + 1)))];
+    const entries =
+      [added, ...kept.map(({number}) => this.#bytes.slice(ENTRY * number, ENTRY * (number + 1)))];
     const first = (entry) => this.#word(new DataView(entry.buffer), 0);
     entries.sort((one, other) => first(one) - first(other));
     const bytes = this.#bytes.slice();
@@ -269,7 +317,8 @@ class Directory {
 
 /** The blocks of an image: where they are in its bytes. */
 class DiskImage {
-  constructor(bytes, format, {order = IN_ORDER, start = 0, length = bytes.length, checksum = null} = {}) {
+  constructor(
+    bytes, format, {order = IN_ORDER, start = 0, length = bytes.length, checksum = null} = {}) {
     this.bytes = bytes;
     this.format = format;
     this.order = order;
@@ -286,7 +335,8 @@ class DiskImage {
   /** A copy of so many blocks. */
   read(first, blocks) {
     const read = new Uint8Array(BLOCK * blocks);
-    for (let half = 0; half < 2 * blocks; half++) read.set(this.#half(2 * first + half), SECTOR * half);
+    for (let half = 0; half < 2 * blocks; half++)
+      read.set(this.#half(2 * first + half), SECTOR * half);
     return read;
   }
 
@@ -314,7 +364,8 @@ class DiskImage {
   }
 
   #half(number) {
-    const sector = TRACK_SECTORS * Math.floor(number / TRACK_SECTORS) + this.order[number % TRACK_SECTORS];
+    const sector =
+      TRACK_SECTORS * Math.floor(number / TRACK_SECTORS) + this.order[number % TRACK_SECTORS];
     return this.bytes.subarray(this.start + SECTOR * sector, this.start + SECTOR * (sector + 1));
   }
 
@@ -322,7 +373,10 @@ class DiskImage {
     return new DataView(this.bytes.buffer, this.bytes.byteOffset, DISK_COPY_HEADER);
   }
 
-  /** The checksum of DiskCopy 4.2: the sum of the big-endian words, turned right by a bit after each. */
+  /**
+   * The checksum of DiskCopy 4.2: the sum of the big-endian words, turned right by a bit after
+   * each.
+   */
   #sum() {
     let sum = 0;
     for (let place = this.start; place < this.start + this.length; place += 2) {
@@ -340,34 +394,45 @@ function imagesOf(bytes) {
 
 function withoutHeader(bytes) {
   const images = [new DiskImage(bytes, "blocks in order")];
-  if (isDisk(bytes.length)) images.push(new DiskImage(bytes, "sectors in the order of DOS 3.3", {order: DOS_ORDER}));
+  if (isDisk(bytes.length))
+    images.push(new DiskImage(bytes, "sectors in the order of DOS 3.3", {order: DOS_ORDER}));
   return images;
 }
 
 /** 2IMG: the order that the header says first, and then the other. */
 function twoImg(bytes) {
   if (!begins(bytes, "2IMG") || bytes.length < TWO_IMG_HEADER) return [];
-  const header = new DataView(bytes.buffer, bytes.byteOffset, TWO_IMG_HEADER), field = (place) => header.getUint32(place, true);
-  const start = field(24) || TWO_IMG_HEADER, length = field(28) || BLOCK * field(20) || bytes.length - start;
+  const header = new DataView(bytes.buffer, bytes.byteOffset, TWO_IMG_HEADER),
+        field = (place) => header.getUint32(place, true);
+  const start = field(24) || TWO_IMG_HEADER,
+        length = field(28) || BLOCK * field(20) || bytes.length - start;
   const inBlocks = new DiskImage(bytes, "2IMG, blocks in order", {start, length});
-  const inSectors = new DiskImage(bytes, "2IMG, sectors in the order of DOS 3.3", {start, length, order: DOS_ORDER});
+  const inSectors = new DiskImage(
+    bytes, "2IMG, sectors in the order of DOS 3.3", {start, length, order: DOS_ORDER});
   if (!isDisk(inBlocks.length)) return [inBlocks];
   return field(12) === 0 ? [inSectors, inBlocks] : [inBlocks, inSectors];
 }
 
 function diskCopy(bytes) {
-  if (bytes.length < DISK_COPY_HEADER || bytes[0] > 63 || bytes[82] !== 1 || bytes[83] !== 0) return [];
-  const header = new DataView(bytes.buffer, bytes.byteOffset, DISK_COPY_HEADER), length = header.getUint32(64);
+  if (bytes.length < DISK_COPY_HEADER || bytes[0] > 63 || bytes[82] !== 1 || bytes[83] !== 0)
+    return [];
+  const header = new DataView(bytes.buffer, bytes.byteOffset, DISK_COPY_HEADER),
+        length = header.getUint32(64);
   if (length === 0 || length % BLOCK !== 0) return [];
-  return [new DiskImage(bytes, "DiskCopy 4.2", {start: DISK_COPY_HEADER, length, checksum: DISK_COPY_CHECKSUM})];
+  return [new DiskImage(
+    bytes, "DiskCopy 4.2", {start: DISK_COPY_HEADER, length, checksum: DISK_COPY_CHECKSUM})];
 }
 
-/** The reading whose directory is sound, or else one in which there is a directory, or the duplicate of it if that alone is sound. */
+/**
+ * The reading whose directory is sound, or else one in which there is a directory, or the
+ * duplicate of it if that alone is sound.
+ */
 function bestReading(images) {
   const found = images.flatMap((image) => readingsOf(image, FIRST_DIRECTORY));
   const first = found.find(isSound) ?? found[0] ?? null;
   if (first && (isSound(first) || !first.directory.hasDuplicate)) return first;
-  const duplicates = (first ? [first.image] : images).flatMap((image) => readingsOf(image, DUPLICATE_DIRECTORY));
+  const duplicates =
+    (first ? [first.image] : images).flatMap((image) => readingsOf(image, DUPLICATE_DIRECTORY));
   const duplicate = duplicates.find(isSound) ?? (first ? null : duplicates[0]);
   return duplicate ? readFromDuplicate(duplicate) : first;
 }
@@ -377,19 +442,24 @@ function isSound(reading) {
 }
 
 function readFromDuplicate(reading) {
-  const flaw = "The directory in blocks 2 to 5 is not sound: the files are those of the duplicate in blocks 6 to 9.";
+  const flaw =
+    "The directory in blocks 2 to 5 is not sound: the files are those of the duplicate in blocks 6 to 9.";
   return {...reading, flaws: [flaw, ...reading.flaws]};
 }
 
 /** What an image is with a directory at this block: one reading, or none. */
 function readingsOf(image, block) {
-  const directories = directoriesAt(image, block).filter((directory) => volumeFlaw(directory).text === null);
-  return directories
-    .filter((directory) => block === FIRST_DIRECTORY || directory.hasDuplicate)
-    .map((directory) => ({image, directory, flaws: flawsOf(image, directory), notes: notesOf(image, directory)}));
+  const directories =
+    directoriesAt(image, block).filter((directory) => volumeFlaw(directory).text === null);
+  return directories.filter((directory) => block === FIRST_DIRECTORY || directory.hasDuplicate)
+    .map((directory) => (
+           {image, directory, flaws: flawsOf(image, directory), notes: notesOf(image, directory)}));
 }
 
-/** The blocks from this one on as a directory, in both byte orders; none where the image ends before. */
+/**
+ * The blocks from this one on as a directory, in both byte orders; none where the image ends
+ * before.
+ */
 function directoriesAt(image, block) {
   if (image.blocks < block + DIRECTORY_BLOCKS) return [];
   const bytes = image.read(block, DIRECTORY_BLOCKS);
@@ -401,23 +471,35 @@ function volumeFlaw(directory) {
   const entry = directory.entry(0), {first, next, kind, length} = entry;
   const checks = [
     [first === 0, `begins with the word ${first}, and not with 0`],
-    [next === DUPLICATE_DIRECTORY || next === DUPLICATE_END, `says that the first file begins at block ${next}, and 6 or 10 is possible`],
+    [
+      next === DUPLICATE_DIRECTORY || next === DUPLICATE_END,
+      `says that the first file begins at block ${next}, and 6 or 10 is possible`
+    ],
     [kind === 0, `has the kind ${kind}, and not 0`],
-    [length >= 1 && length <= VOLUME_NAME_MAX, `has a name of ${counted(length, "character")}, and 1 to ${VOLUME_NAME_MAX} are possible`],
+    [
+      length >= 1 && length <= VOLUME_NAME_MAX,
+      `has a name of ${counted(length, "character")}, and 1 to ${VOLUME_NAME_MAX} are possible`
+    ],
     [isPrintable(entry), "has a name with a byte that is no character of a name"],
   ];
   const right = checks.findIndex(([isRight]) => !isRight);
-  return right < 0 ? {text: null, right: checks.length} : {text: `The volume entry ${checks[right][1]}.`, right};
+  return right < 0 ? {text: null, right: checks.length} :
+                     {text: `The volume entry ${checks[right][1]}.`, right};
 }
 
 /** What is not sound in an image with this directory. */
 function flawsOf(image, directory) {
   const {blocks, count, end} = directory, flaws = [];
   if (image.stated > image.length) {
-    flaws.push(`The header says that the data have ${counted(image.stated, "byte")}, and there are ${image.length}: the image is cut.`);
+    flaws.push(`The header says that the data have ${
+      counted(image.stated, "byte")}, and there are ${image.length}: the image is cut.`);
   }
-  if (blocks < end) flaws.push(`The volume entry says that the volume has ${counted(blocks, "block")}, and the directory ends before block ${end}.`);
-  if (count > FILES_MAX) flaws.push(`The volume entry says that there are ${count} files, and a directory has ${FILES_MAX} at most.`);
+  if (blocks < end)
+    flaws.push(`The volume entry says that the volume has ${
+      counted(blocks, "block")}, and the directory ends before block ${end}.`);
+  if (count > FILES_MAX)
+    flaws.push(`The volume entry says that there are ${count} files, and a directory has ${
+      FILES_MAX} at most.`);
   let before = {end, owner: "the directory"};
   for (const entry of directory.files()) {
     const flaw = entryFlaw(entry, before, directory, image);
@@ -427,17 +509,35 @@ function flawsOf(image, directory) {
   return flaws;
 }
 
-/** The first thing that is not sound in the entry of a file, null if all is; `before` says what has the blocks before some block. */
+/**
+ * The first thing that is not sound in the entry of a file, null if all is; `before` says what has
+ * the blocks before some block.
+ */
 function entryFlaw(entry, before, directory, image) {
   const {first, next, length, lastBytes} = entry;
   const checks = [
-    [length >= 1 && length <= FILE_NAME_MAX, `has a name of ${counted(length, "character")}, and 1 to ${FILE_NAME_MAX} are possible`],
+    [
+      length >= 1 && length <= FILE_NAME_MAX,
+      `has a name of ${counted(length, "character")}, and 1 to ${FILE_NAME_MAX} are possible`
+    ],
     [isPrintable(entry), "has a name with a byte that is no character of a name"],
     [first < next, `has no blocks: it begins at block ${first} and ends before block ${next}`],
-    [first >= before.end, `begins at block ${first}, and the blocks before ${before.end} are those of ${before.owner}`],
-    [next <= directory.blocks, `ends before block ${next}, and the volume has ${counted(directory.blocks, "block")}`],
-    [next <= image.blocks, `ends before block ${next}, and the image has ${counted(image.blocks, "block")}`],
-    [lastBytes >= 1 && lastBytes <= BLOCK, `has ${counted(lastBytes, "byte")} in its last block, and 1 to ${BLOCK} are possible`],
+    [
+      first >= before.end,
+      `begins at block ${first}, and the blocks before ${before.end} are those of ${before.owner}`
+    ],
+    [
+      next <= directory.blocks,
+      `ends before block ${next}, and the volume has ${counted(directory.blocks, "block")}`
+    ],
+    [
+      next <= image.blocks,
+      `ends before block ${next}, and the image has ${counted(image.blocks, "block")}`
+    ],
+    [
+      lastBytes >= 1 && lastBytes <= BLOCK,
+      `has ${counted(lastBytes, "byte")} in its last block, and 1 to ${BLOCK} are possible`
+    ],
   ];
   const wrong = checks.find(([isRight]) => !isRight);
   return wrong ? `Entry ${titled(entry)}${isPrintable(entry) ? "," : ""} ${wrong[1]}.` : null;
@@ -446,11 +546,16 @@ function entryFlaw(entry, before, directory, image) {
 /** What a person may want to know of an image that can be used. */
 function notesOf(image, directory) {
   const notes = [];
-  if (directory.blocks > image.blocks) notes.push(`The volume has ${directory.blocks} blocks by its directory, and the image ${image.blocks}.`);
-  if (!image.isChecked) notes.push("The checksum in the header is not that of the data: the image may be damaged.");
-  const [one, other] = [FIRST_DIRECTORY, DUPLICATE_DIRECTORY].map((block) => image.read(block, DIRECTORY_BLOCKS));
+  if (directory.blocks > image.blocks)
+    notes.push(
+      `The volume has ${directory.blocks} blocks by its directory, and the image ${image.blocks}.`);
+  if (!image.isChecked)
+    notes.push("The checksum in the header is not that of the data: the image may be damaged.");
+  const [one, other] =
+    [FIRST_DIRECTORY, DUPLICATE_DIRECTORY].map((block) => image.read(block, DIRECTORY_BLOCKS));
   if (directory.hasDuplicate && !isSame(one, other)) {
-    notes.push("The duplicate directory in blocks 6 to 9 differs from the directory in blocks 2 to 5.");
+    notes.push(
+      "The duplicate directory in blocks 6 to 9 differs from the directory in blocks 2 to 5.");
   }
   return notes;
 }
@@ -460,28 +565,36 @@ function whyNoVolume(bytes, images) {
   const other = otherForm(bytes);
   if (other) return other;
   const flaws = images.flatMap((image) => directoriesAt(image, FIRST_DIRECTORY)).map(volumeFlaw);
-  if (!flaws.length) return `There is no volume: an image has 6 blocks at least, and there are ${counted(bytes.length, "byte")}.`;
+  if (!flaws.length)
+    return `There is no volume: an image has 6 blocks at least, and there are ${
+      counted(bytes.length, "byte")}.`;
   const nearest = flaws.reduce((best, flaw) => (flaw.right > best.right ? flaw : best));
   return `There is no directory of a p-System volume in block 2. ${nearest.text}`;
 }
 
 /**
- * What the bytes are if they are a known form that is not opened, as a sentence; null if they are not.
+ * What the bytes are if they are a known form that is not opened, as a sentence; null if they are
+ * not.
  * @param {Uint8Array} bytes
  * @returns {string | null}
  */
 export function otherForm(bytes) {
   if (bytes[0] === 0x1f && bytes[1] === 0x8b) return "This is a gzip file. Unpack it first.";
   if (begins(bytes, "PK\x03\x04")) return "This is a zip file. Unpack it first.";
-  if (begins(bytes, "2IMG") && bytes[12] === 2) return `This is a 2IMG image of nibbles. ${IN_BLOCKS}`;
+  if (begins(bytes, "2IMG") && bytes[12] === 2)
+    return `This is a 2IMG image of nibbles. ${IN_BLOCKS}`;
   // (in both orders the directory begins in the same sector)
-  if (hasVolume(bytes, CPM_ORDER)) return `This image has its sectors in the order of CP/M, or as they lie on the disk. ${IN_BLOCKS}`;
-  if (NIBBLE_SIZES.includes(bytes.length)) return `This may be a disk image of nibbles. ${IN_BLOCKS}`;
+  if (hasVolume(bytes, CPM_ORDER))
+    return `This image has its sectors in the order of CP/M, or as they lie on the disk. ${
+      IN_BLOCKS}`;
+  if (NIBBLE_SIZES.includes(bytes.length))
+    return `This may be a disk image of nibbles. ${IN_BLOCKS}`;
   return null;
 }
 
 function hasVolume(bytes, order) {
-  return isDisk(bytes.length) && readingsOf(new DiskImage(bytes, "", {order}), FIRST_DIRECTORY).length > 0;
+  return isDisk(bytes.length) &&
+    readingsOf(new DiskImage(bytes, "", {order}), FIRST_DIRECTORY).length > 0;
 }
 
 /** Whether so many bytes are a disk of sectors of 256 bytes. */
@@ -510,9 +623,11 @@ function dateOf(word) {
 function dateWord(date) {
   if (date === null) return 0;
   const {year, month, day} = Object(date);
-  const isWithin = (value, least, most) => Number.isInteger(value) && value >= least && value <= most;
+  const isWithin = (value, least, most) =>
+    Number.isInteger(value) && value >= least && value <= most;
   if (!isWithin(year, 1970, 2069) || !isWithin(month, 1, 12) || !isWithin(day, 1, 31)) {
-    throw new VolumeError("The date is none that a directory can have: years are 1970 to 2069, months 1 to 12, days 1 to 31.");
+    throw new VolumeError(
+      "The date is none that a directory can have: years are 1970 to 2069, months 1 to 12, days 1 to 31.");
   }
   return ((year % 100) << 9) | (day << 4) | month;
 }
@@ -524,8 +639,10 @@ function today() {
 
 /** The bytes without what a subclass such as node's Buffer changes of them. */
 function plain(bytes, what) {
-  if (ArrayBuffer.isView(bytes)) return new Uint8Array(bytes.buffer, bytes.byteOffset, bytes.byteLength);
-  if (Object.prototype.toString.call(bytes) === "[object ArrayBuffer]") return new Uint8Array(bytes);
+  if (ArrayBuffer.isView(bytes))
+    return new Uint8Array(bytes.buffer, bytes.byteOffset, bytes.byteLength);
+  if (Object.prototype.toString.call(bytes) === "[object ArrayBuffer]")
+    return new Uint8Array(bytes);
   throw new VolumeError(`${what} is not given as bytes.`);
 }
 

@@ -1,6 +1,7 @@
 /*
- * The commands of `pslink volume` over node: what is on the volume in an image of a disk, a file off it, and a code file onto a copy of
- * it. The program pslink has none of them. An image is never changed in place.
+ * The commands of `pslink volume` over node: what is on the volume in an image of a disk, a file
+ * off it, and a code file onto a copy of it. The program pslink has none of them. An image is never
+ * changed in place.
  */
 
 import {basename} from "node:path";
@@ -18,11 +19,17 @@ const STATUSES = `Exit status:
   3  a file could not be read or written, or standard output failed
   4  out of memory`;
 
-const IMAGE = {id: "IMAGE", positional: true, required: true, help: "The image of a disk"};
+const IMAGE = {
+  id: "IMAGE",
+  positional: true,
+  required: true,
+  help: "The image of a disk"
+};
 
 const VOLUME = {
   name: "pslink volume",
-  about: "Volumes of the p-System in images of disks: what is on them, a file off one, and one onto a copy",
+  about:
+    "Volumes of the p-System in images of disks: what is on them, a file off one, and one onto a copy",
   ending: `Example:
   pslink volume take disk.po HOST.CODE host.code
   pslink link -o linked.code host.code library.code
@@ -60,7 +67,8 @@ ${STATUSES}`,
       name: "put",
       about: "Puts a code file onto a copy of the image",
       usage: "pslink volume put -o <NEWIMAGE> <IMAGE> <FILE> [NAME]",
-      ending: `The copy is the image with FILE as its file NAME, in place of one that has the name, or
+      ending:
+        `The copy is the image with FILE as its file NAME, in place of one that has the name, or
 as a new one. Without NAME it has the name of FILE in capitals. All else in the copy is
 as it was. NEWIMAGE is another file than IMAGE and FILE.
 
@@ -69,16 +77,28 @@ ${STATUSES}`,
         IMAGE,
         {id: "FILE", positional: true, required: true, help: "The code file"},
         {id: "NAME", positional: true, help: "Its name on the volume, as HOST.CODE"},
-        {id: "NEWIMAGE", long: "output", short: "o", valued: true, required: true, help: "The image to write"},
+        {
+          id: "NEWIMAGE",
+          long: "output",
+          short: "o",
+          valued: true,
+          required: true,
+          help: "The image to write"
+        },
       ],
     },
   ],
 };
 
-const COMMANDS = {list, take, put};
+const COMMANDS = {
+  list,
+  take,
+  put
+};
 
 // what no name of a file of each system may have, and names that Windows keeps for devices
-const NO_PART_OF_A_NAME = /[\u0000-\u001f"*/:<>?\\|]/, DEVICE = /^(con|prn|aux|nul|com\d|lpt\d)(\.|$)/i;
+const NO_PART_OF_A_NAME = /[\u0000-\u001f"*/:<>?\\|]/,
+      DEVICE = /^(con|prn|aux|nul|com\d|lpt\d)(\.|$)/i;
 
 /**
  * Does the command that the words after `volume` name, and gives the exit status.
@@ -103,9 +123,11 @@ export function runVolume(words, streams) {
 }
 
 function list(image, value, streams) {
-  const volume = openVolume(readFile(image)), order = volume.bigEndian ? "big-endian" : "little-endian";
+  const volume = openVolume(readFile(image)),
+        order = volume.bigEndian ? "big-endian" : "little-endian";
   const lines = [
-    `volume ${volume.name}: ${volume.format}, ${order}, ${volume.blocks} blocks, ${volume.freeBlocks} free`,
+    `volume ${volume.name}: ${volume.format}, ${order}, ${volume.blocks} blocks, ${
+      volume.freeBlocks} free`,
     ...volume.flaws.map((flaw) => `not sound: ${flaw}`),
     ...volume.notes.map((note) => `note: ${note}`),
     ...volume.files.map(fileLine),
@@ -127,34 +149,49 @@ function take(image, value) {
   const out = value("OUT"), name = value("NAME");
   if (out !== undefined) refuseInput("take", "[OUT]", out, {image});
   const bytes = openVolume(readFile(image)).take(name);
-  if (out === undefined) writeHere(name, bytes);
-  else writeFile(out, bytes);
+  if (out === undefined)
+    writeHere(name, bytes);
+  else
+    writeFile(out, bytes);
   return DONE;
 }
 
-/** Writes a file by its name on the volume, where that can be the name of a file in this folder, and none is there that would be lost. */
+/**
+ * Writes a file by its name on the volume, where that can be the name of a file in this folder,
+ * and none is there that would be lost.
+ */
 function writeHere(name, bytes) {
-  if (NO_PART_OF_A_NAME.test(name) || /[. ]$/.test(name) || (process.platform === "win32" && DEVICE.test(name))) {
+  if (NO_PART_OF_A_NAME.test(name) || /[. ]$/.test(name) ||
+    (process.platform === "win32" && DEVICE.test(name))) {
     throw new VolumeError(`The file ${name} can have no such name in a folder. Give OUT after it.`);
   }
-  if (isThere(name)) throw new VolumeError(`There is ${name} in this folder already. Give OUT after it.`);
+  if (isThere(name))
+    throw new VolumeError(`There is ${name} in this folder already. Give OUT after it.`);
   writeFile(name, bytes, {isNew: true});
 }
 
 function put(image, value, streams) {
-  const file = value("FILE"), newImage = value("NEWIMAGE"), name = value("NAME") ?? basename(file).toUpperCase();
+  const file = value("FILE"), newImage = value("NEWIMAGE"),
+        name = value("NAME") ?? basename(file).toUpperCase();
   refuseInput("put", "<NEWIMAGE>", newImage, {image, file});
-  const volume = openVolume(readFile(image)), made = volume.put(name, readFile(file)), isTold = streams.isOutput(newImage);
+  const volume = openVolume(readFile(image)), made = volume.put(name, readFile(file)),
+        isTold = streams.isOutput(newImage);
   const place = made.replaced ? "in place of the file of that name" : "a new file";
-  const line = `${name.toUpperCase()}: ${made.blocks} blocks from block ${made.first} on, ${place}\n`;
+  const line =
+    `${name.toUpperCase()}: ${made.blocks} blocks from block ${made.first} on, ${place}\n`;
   writeFile(newImage, made.image);
-  if (isTold) streams.tell(line);
-  else streams.print(line);
+  if (isTold)
+    streams.tell(line);
+  else
+    streams.print(line);
   return DONE;
 }
 
 /** Refuses to write to a file that is read. */
 function refuseInput(name, argument, path, files) {
-  const [what, other] = Object.entries(files).find(([, file]) => path === file || leadToOneFile(path, file)) ?? [];
-  if (what) throw sameFile(commandOf(VOLUME, name), argument, path, {path: other, asNamed: `the ${what}`, asFile: `the ${what}`});
+  const [what, other] =
+    Object.entries(files).find(([, file]) => path === file || leadToOneFile(path, file)) ?? [];
+  if (what)
+    throw sameFile(commandOf(VOLUME, name), argument, path,
+      {path: other, asNamed: `the ${what}`, asFile: `the ${what}`});
 }

@@ -1,5 +1,5 @@
-"""Bugs of the picture for page_bugs.py: what is wrong, the file, its text, the text in its place, and what is to tell it. `values` is
-pictured_test.mjs, by each fourth test vector."""
+"""Bugs of the picture for page_bugs.py: what is wrong, the file, its text, the text in its place,
+and what is to tell it. `values` is pictured_test.mjs, by each fourth test vector."""
 
 BUGS = [
     (
@@ -140,8 +140,8 @@ BUGS = [
     (
         "the data size before and after exchanged",
         "pictured.mjs",
-        "return {was: word(size.was), is: word(size.is),",
-        "return {was: word(size.is), is: word(size.was),",
+        "was: word(size.was),\n    is: word(size.is),",
+        "was: word(size.is),\n    is: word(size.was),",
         "values",
     ),
     (
