@@ -19,13 +19,20 @@ export const NOT_YET = "The files are still being looked at.";
  * box to check, and without bytes where the image does not have them all.
  */
 export const state = {
-  files: [], wanted: [], volumes: [], removed: [], linked: null,
+  files: [],
+  wanted: [],
+  volumes: [],
+  removed: [],
+  linked: null,
   round: 0, // how often the files were changed
   underWay: 0, // how much work is under way
   action: "", // what was done last, until it is told
-  // what a person chose and wrote: a volume; the host for which a name was written, and the host and
-  // the volume for which one was offered; and whether the image has a name
-  target: null, namedFor: null, offered: null, isImageNamed: false,
+  // what a person chose and wrote: a volume; the host for which a name was written, and the host
+  // and the volume for which one was offered; and whether the image has a name
+  target: null,
+  namedFor: null,
+  offered: null,
+  isImageNamed: false,
 };
 
 export const byId = (id) => document.getElementById(id);

@@ -17,7 +17,10 @@ const BLOCK = 512, MACBINARY = 128, DISK_COPY = 84, TWO_IMG = 64;
 const APPLE_SINGLE = 0x00051600, DATA_FORK = 1, ENTRIES = 26, ENTRY = 12;
 // what is read of a text, and what is unpacked at most
 const TEXT_MAX = 1 << 24, UNPACKED_MAX = 1 << 26;
-const HEADER = {words: "Use it without its header", named: "without its header"};
+const HEADER = {
+  words: "Use it without its header",
+  named: "without its header"
+};
 
 const viewOf = (bytes) => new DataView(bytes.buffer, bytes.byteOffset, bytes.byteLength);
 
@@ -29,8 +32,8 @@ const behind = (bytes, start, length) =>
 // ---- Headers
 
 function ofMacBinary(bytes) {
-  const isOne = bytes.length > MACBINARY && bytes[0] === 0 && bytes[1] >= 1 && bytes[1] <= 63
-    && bytes[74] === 0 && bytes[82] === 0;
+  const isOne = bytes.length > MACBINARY && bytes[0] === 0 && bytes[1] >= 1 && bytes[1] <= 63 &&
+    bytes[74] === 0 && bytes[82] === 0;
   if (!isOne) return [];
   const content = behind(bytes, MACBINARY, viewOf(bytes).getUint32(83));
   return [{...HEADER, told: "is behind a header of MacBinary", bytes: content}];
@@ -62,8 +65,10 @@ function ofTwoImg(bytes) {
 
 /** Headers of which nothing is known but how long they are. */
 function ofOtherHeaders(bytes) {
-  return [MACBINARY, BLOCK].filter((length) => bytes.length > length).map((length) => ({
-    ...HEADER, told: `is behind a header of ${length} bytes`, bytes: bytes.slice(length)}));
+  return [MACBINARY, BLOCK]
+    .filter((length) => bytes.length > length)
+    .map((length) => (
+           {...HEADER, told: `is behind a header of ${length} bytes`, bytes: bytes.slice(length)}));
 }
 
 // ---- Pairs and gzip
@@ -71,9 +76,12 @@ function ofOtherHeaders(bytes) {
 function ofPairs(bytes) {
   const pairs = bytes.slice();
   for (let k = 0; k + 1 < pairs.length; k += 2) [pairs[k], pairs[k + 1]] = [pairs[k + 1], pairs[k]];
-  return [{told: "has the two bytes of each pair exchanged",
+  return [{
+    told: "has the two bytes of each pair exchanged",
     words: "Use it with its bytes exchanged",
-    named: "with its bytes exchanged", bytes: pairs}];
+    named: "with its bytes exchanged",
+    bytes: pairs
+  }];
 }
 
 /** All that a stream gives, but no more than a file may have; null if it gives more. */
@@ -94,7 +102,8 @@ async function ofGzip(bytes) {
   const isOne = bytes[0] === 0x1f && bytes[1] === 0x8b;
   if (!isOne || !globalThis.DecompressionStream) return [];
   try {
-    const content = await allOf(new Blob([bytes]).stream().pipeThrough(new DecompressionStream("gzip")));
+    const content =
+      await allOf(new Blob([bytes]).stream().pipeThrough(new DecompressionStream("gzip")));
     const form = {told: "is a gzip file", words: "Use it unpacked", named: "unpacked"};
     return content ? [{...form, bytes: content}] : [];
   } catch {
@@ -104,11 +113,14 @@ async function ofGzip(bytes) {
 
 // ---- Texts
 
-const TEXT = {words: "Use it turned back", named: "turned back"};
+const TEXT = {
+  words: "Use it turned back",
+  named: "turned back"
+};
 
 function fromBase64(text) {
-  const digits = text.replace(/^begin-base64 .*\n/, "").replace(/\n====\s*$/, "").replace(/\s/g,
-    "");
+  const digits =
+    text.replace(/^begin-base64 .*\n/, "").replace(/\n====\s*$/, "").replace(/\s/g, "");
   if (!/^[A-Za-z0-9+/]+={0,2}$/.test(digits) || digits.length % 4 === 1) return null;
   try {
     return Uint8Array.from(atob(digits), (one) => one.charCodeAt(0));
@@ -142,8 +154,8 @@ function lineOfDump(line) {
   const digits = (isInOrder ? rest.split(/ {2}/)[0] : rest.replace(/\s*\|.*\|?$/, "")).trim();
   const words = digits === "" ? [] : digits.split(/\s+/);
   const length = words[0]?.length ?? 2, isWord = /^[0-9A-Fa-f]+$/;
-  const are = (word) => isWord.test(word)
-    && (word.length === length || (isInOrder && word.length === 2));
+  const are = (word) =>
+    isWord.test(word) && (word.length === length || (isInOrder && word.length === 2));
   if (![2, 3, 4, 6].includes(length) || !words.every(are)) return null;
   return {place, bytes: words.flatMap((word) => bytesOfWord(word, isInOrder))};
 }
@@ -180,15 +192,16 @@ function fromDump(text) {
 
 function ofTexts(bytes) {
   if (bytes.length > TEXT_MAX || bytes.length === 0) return [];
-  const isText = bytes.every((byte) => byte === 9 || byte === 10 || byte === 13
-    || (byte >= 32 && byte < 127));
+  const isText =
+    bytes.every((byte) => byte === 9 || byte === 10 || byte === 13 || (byte >= 32 && byte < 127));
   if (!isText) return [];
   const text = new TextDecoder().decode(bytes).replace(/\r\n?/g, "\n");
-  const made = [["is a dump", fromDump(text)],
-    ["is a text of hexadecimal digits", fromDigits(text)],
-    ["is a text in base64", fromBase64(text)]];
-  return made.filter(([, content]) => content).map(([told, content]) =>
-    ({...TEXT, told, bytes: content}));
+  const made = [
+    ["is a dump", fromDump(text)], ["is a text of hexadecimal digits", fromDigits(text)],
+    ["is a text in base64", fromBase64(text)]
+  ];
+  return made.filter(([, content]) => content).map(([told,
+    content]) => ({...TEXT, told, bytes: content}));
 }
 
 /**
@@ -197,6 +210,8 @@ function ofTexts(bytes) {
  * @returns {Promise<Form[]>}
  */
 export async function formsOf(bytes) {
-  return [...ofMacBinary(bytes), ...ofAppleSingle(bytes), ...ofDiskCopy(bytes), ...ofTwoImg(bytes),
-    ...await ofGzip(bytes), ...ofTexts(bytes), ...ofOtherHeaders(bytes), ...ofPairs(bytes)];
+  return [
+    ...ofMacBinary(bytes), ...ofAppleSingle(bytes), ...ofDiskCopy(bytes), ...ofTwoImg(bytes),
+    ...await ofGzip(bytes), ...ofTexts(bytes), ...ofOtherHeaders(bytes), ...ofPairs(bytes)
+  ];
 }

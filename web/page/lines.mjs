@@ -10,7 +10,7 @@
 
 // a fault, and a section of the manual; and what the page says in place of the name of the manual
 const LINKED = /\brefused (\d+) \w+|\b(WARNINGS|DAMAGED FILES) (?:in|of) pslink\(1\)/g,
-  BELOW = " below";
+      BELOW = " below";
 
 function kindOf(line, before) {
   if (line.startsWith("pslink: ")) return "refused";
@@ -75,6 +75,7 @@ export function piecesOf(line, terms) {
  * @returns {string[]}
  */
 export function sentencesOf(report) {
-  return linesOf(report).filter(({line, kind}) => kind === "why"
-    && /^ {2}[A-Z].*\.$/.test(line)).map(({line}) => line.trim());
+  return linesOf(report)
+    .filter(({line, kind}) => kind === "why" && /^ {2}[A-Z].*\.$/.test(line))
+    .map(({line}) => line.trim());
 }

@@ -1,6 +1,8 @@
 #!/usr/bin/env python3
-"""Writes the page: one file with the module, the scripts and parts of the manual in it. It is the same bytes wherever it is made.
-Usage: make_page.py [MODULE [PAGE]], which are web/out/pslink.wasm and web/out/pslink.html if they are not given."""
+"""Writes the page: one file with the module, the scripts and parts of the manual in it. It is the
+same bytes wherever it is made.
+Usage: make_page.py [MODULE [PAGE]], which are web/out/pslink.wasm and web/out/pslink.html if they
+are not given."""
 import base64
 import hashlib
 import html
@@ -14,14 +16,17 @@ import manual
 HERE = pathlib.Path(__file__).resolve().parent
 WEB = HERE.parent
 ROOT = WEB.parent
-SHARED = ["pslink.mjs", "volume.mjs", "names.mjs", "elements.mjs", "pictured.mjs", "picture_style.mjs", "strips.mjs", "picture.mjs"]
-PARTS = ["common.mjs", "lines.mjs", "forms.mjs", "verdict.mjs", "volume_box.mjs", "putting.mjs", "texts.mjs", "segment.mjs", "picture_box.mjs",
-         "page.mjs"]
+SHARED = ["pslink.mjs", "volume.mjs", "names.mjs", "elements.mjs", "pictured.mjs",
+          "picture_style.mjs", "strips.mjs", "picture.mjs"]
+PARTS = ["common.mjs", "lines.mjs", "forms.mjs", "verdict.mjs", "volume_box.mjs", "putting.mjs",
+         "texts.mjs", "segment.mjs", "picture_box.mjs", "page.mjs"]
 SCRIPTS = [*(WEB / name for name in SHARED), *(HERE / name for name in PARTS)]
 SECTIONS = ["WARNINGS", "DAMAGED FILES", "DIAGNOSTICS", "ORDER OF FAULTS", "TEXTS"]
-IMPORT = re.compile(r'^import \{([^}]*)\} from "\./([^"]*)";\n|^import \{([^}]*)\} from "\.\./([^"]*)";\n', re.M)
+IMPORT = re.compile(
+    r'^import \{([^}]*)\} from "\./([^"]*)";\n|^import \{([^}]*)\} from "\.\./([^"]*)";\n', re.M)
 EXPORT = re.compile(r"^export ((?:async )?(?:function|class|const) (\w+))", re.M)
-POLICY = ("default-src 'none'; script-src 'sha256-{script}' 'wasm-unsafe-eval'; style-src 'sha256-{style}'; img-src data:; "
+POLICY = ("default-src 'none'; script-src 'sha256-{script}' 'wasm-unsafe-eval'; style-src "
+          "'sha256-{style}'; img-src data:; "
           "base-uri 'none'; form-action 'none'")
 
 
@@ -30,12 +35,16 @@ def read(path):
 
 
 def scope(path, before):
-    """A module as a part of the one script, with its names to itself but for those that it exports. What it imports is before it."""
+    """A module as a part of the one script, with its names to itself but for those that it exports.
+    What it imports is before it."""
     source = read(path)
     for first, from_here, second, from_above in IMPORT.findall(source):
-        lacking = {name.strip() for name in (first or second).split(",")} - before.get(from_here or from_above, set())
+        lacking = {name.strip() for name in (first or second).split(",")} - before.get(
+            from_here or from_above, set())
         if lacking:
-            raise SystemExit(f"{path.name} imports {', '.join(sorted(lacking))} of {from_here or from_above}, which does not export it")
+            raise SystemExit(
+                f"{path.name} imports {', '.join(sorted(lacking))} of {from_here or from_above}, "
+                "which does not export it")
     source = IMPORT.sub("", source)
     if re.search(r"^(import|export (default|\{|\*|let|var))", source, re.M):
         raise SystemExit(f"{path.name} has an import or export that is not known here")
@@ -54,16 +63,19 @@ def script():
 
 
 def runs(content):
-    """The bytes of a disk that are not zero, as JSON: how many bytes it has, and each run by its place and in base64. (What zlib makes is
-    another one with another release of it.)"""
+    """The bytes of a disk that are not zero, as JSON: how many bytes it has, and each run by its
+    place and in base64. (What zlib makes is another one with another release of it.)"""
     found = re.finditer(rb"(?:[^\0]|\0{1,15}(?!\0))+", content)
-    return json.dumps([len(content), [[run.start(), base64.b64encode(run[0]).decode()] for run in found]], separators=(",", ":"))
+    return json.dumps(
+        [len(content), [[run.start(), base64.b64encode(run[0]).decode()] for run in found]],
+        separators=(",", ":"))
 
 
 def own_words(text):
     """The manual without the names of its pages, of which this page has none."""
     text = re.sub(r"\s(in|of)\s+pslink\(1\)", " below", text)
-    return re.sub(r"differs from that of\s+<b>pslink</b>\(5\)", "is not the one that pslink reads", text)
+    return re.sub(
+        r"differs from that of\s+<b>pslink</b>\(5\)", "is not the one that pslink reads", text)
 
 
 def digest(text):
@@ -71,7 +83,8 @@ def digest(text):
 
 
 def page(module):
-    code, style = script(), re.search("`(.*)`", read(WEB / "picture_style.mjs"), re.S)[1] + read(HERE / "page.css")
+    code, style = script(), re.search("`(.*)`", read(WEB / "picture_style.mjs"), re.S)[1] + read(
+        HERE / "page.css")
     if re.search("</script|<!--", code, re.I) or "</style" in style:
         raise SystemExit("the script or the style has a tag that would end it")
     parts = {

@@ -1,9 +1,11 @@
-"""Sections of a manual page as HTML, for the macros and escapes that man/pslink.1 has there: any other is an error, so nothing is lost."""
+"""Sections of a manual page as HTML, for the macros and escapes that man/pslink.1 has there: any
+other is an error, so nothing is lost."""
 import html
 import re
 
 # what each macro of fonts does with its words in turn
-FONTS = {".B": "B", ".I": "I", ".BR": "BR", ".BI": "BI", ".IR": "IR", ".IB": "IB", ".RB": "RB", ".RI": "RI"}
+FONTS = {".B": "B", ".I": "I", ".BR": "BR", ".BI": "BI", ".IR": "IR", ".IB": "IB", ".RB": "RB",
+         ".RI": "RI"}
 TAGS = {"B": "b", "I": "i"}
 ESCAPES = {r"\-": "-", r"\&": "", r"\e": "\\"}
 
@@ -58,7 +60,8 @@ def text_of(line):
 
 
 def running(lines):
-    """Lines of text as one: a font of an escape goes on to the next line, one of a macro does not."""
+    """Lines of text as one: a font of an escape goes on to the next line, one of a macro does
+    not."""
     made, plain = [], []
     for line in [*lines, None]:
         if line is not None and not line.startswith("."):
@@ -71,7 +74,8 @@ def running(lines):
 
 
 def cells_of(lines):
-    """The rows of a table: each is a list of cells, which are lists of lines. A long cell is between T{ and T}."""
+    """The rows of a table: each is a list of cells, which are lists of lines. A long cell is
+    between T{ and T}."""
     layout, *lines = lines[1:]  # the first says that | is between cells
     while not layout.endswith("."):
         layout, *lines = lines
@@ -95,7 +99,8 @@ def cells_of(lines):
 
 
 class Section:
-    """One section as HTML. The terms of its lists and the rows that begin with a number have names, to which a line can lead."""
+    """One section as HTML. The terms of its lists and the rows that begin with a number have names,
+    to which a line can lead."""
 
     def __init__(self, title, lines):
         self.name, self.lines, self.made, self.open = anchor(title), list(lines), [], ""
@@ -123,15 +128,16 @@ class Section:
     def text(self):
         """The lines of text from here on, up to the next macro of blocks."""
         at = 0
-        while at < len(self.lines) and (not self.lines[at].startswith(".") or self.lines[at].split(" ")[0] in FONTS):
+        while at < len(self.lines) and (not self.lines[at].startswith(".")
+                                        or self.lines[at].split(" ")[0] in FONTS):
             at += 1
         taken, self.lines = self.lines[:at], self.lines[at:]
         return running(taken)
 
     def block(self, line):
         macro, _, rest = line.partition(" ")
-        blocks = {".PP": self.paragraph, ".TP": self.term, ".SS": self.heading, ".TS": self.table, ".IP": self.item,
-                  ".RS": self.indented}
+        blocks = {".PP": self.paragraph, ".TP": self.term, ".SS": self.heading, ".TS": self.table,
+                  ".IP": self.item, ".RS": self.indented}
         if macro in blocks:
             blocks[macro](rest)
         else:
@@ -169,10 +175,12 @@ class Section:
         self.close()
         head, *rows = cells_of(self.taken_to(".TE"))
         self.made.append("<table>")
-        self.made.append("<tr>" + "".join(f'<th scope="col">{self.cell(it)}</th>' for it in head) + "</tr>")
+        self.made.append(
+            "<tr>" + "".join(f'<th scope="col">{self.cell(it)}</th>' for it in head) + "</tr>")
         for row in rows:
             name = f' id="{self.name}-{row[0][0]}"' if row[0][0].isdigit() else ""
-            self.made.append(f"<tr{name}>" + "".join(f"<td>{self.cell(it)}</td>" for it in row) + "</tr>")
+            self.made.append(
+                f"<tr{name}>" + "".join(f"<td>{self.cell(it)}</td>" for it in row) + "</tr>")
         self.made.append("</table>")
 
     @staticmethod
@@ -193,6 +201,9 @@ def manual(source, titles):
     for title in titles:
         if title not in found:
             raise ManualError(f"there is no section {title}")
-        text = linked("\n".join(Section(title, found[title]).made), [it for it in titles if it != title])
-        made.append(f'<details id="{anchor(title)}"><summary>{title}</summary>\n<div class="text">\n{text}\n</div></details>')
+        text = linked("\n".join(Section(title, found[title]).made), [
+            it for it in titles if it != title])
+        made.append(
+            f'<details id="{anchor(title)}"><summary>{title}</summary>\n<div class="text">\n'
+            f'{text}\n</div></details>')
     return "\n".join(made)

@@ -7,8 +7,19 @@ import {nameOfFile, nameWith, shownName} from "../names.mjs";
 import {modelOf} from "../pictured.mjs";
 import {load} from "../pslink.mjs";
 import {VolumeError, isVolume, openVolume, otherForm} from "../volume.mjs";
-import {NOT_YET, baseOf, byId, count, hasCode, hostOf, listed, nameOf, saveFile, say,
-  state} from "./common.mjs";
+import {
+  NOT_YET,
+  baseOf,
+  byId,
+  count,
+  hasCode,
+  hostOf,
+  listed,
+  nameOf,
+  saveFile,
+  say,
+  state
+} from "./common.mjs";
 import {formsOf} from "./forms.mjs";
 import {patternOf} from "./lines.mjs";
 import {PictureBox} from "./picture_box.mjs";
@@ -48,8 +59,7 @@ const rowOf = (element) => [...byId("files").children].indexOf(element.closest("
 
 function row(file, k) {
   const part = (className, textContent) => made("span", {className, textContent});
-  return made("li", {},
-    part("role", k === 0 ? "Host" : `Library ${k}`),
+  return made("li", {}, part("role", k === 0 ? "Host" : `Library ${k}`),
     made("span", {className: "about"}, made("span", {className: "name"}, nameOf(file.name)),
       part("what", file.what), part("units", unitsOf(file, k)), part("warning", noteOf(file))),
     made("span", {className: "acts"}, ...rowButtons(file, k)));
@@ -57,17 +67,19 @@ function row(file, k) {
 
 function rowButtons(file, k) {
   const name = shownName(file.name), last = state.files.length - 1;
-  const button = (className, textContent, label, more) => made("button", {
-    type: "button", className, textContent, label, ...more});
+  const button = (className, textContent, label, more) =>
+    made("button", {type: "button", className, textContent, label, ...more});
   const up = {disabled: k === 0, onclick: () => move(k, k - 1, "up")};
   const down = {disabled: k === last, onclick: () => move(k, k + 1, "down")};
   const first = {disabled: k === 0, onclick: () => move(k, 0, "host")};
-  return [button("up", "Up", `Move ${name} up`, up),
-    button("down", "Down", `Move ${name} down`, down),
+  return [
+    button("up", "Up", `Move ${name} up`, up), button("down", "Down", `Move ${name} down`, down),
     button("host", "Use as host", `Use ${name} as host`, first),
     ...(file.form ? [button("convert", file.form.words, `${file.form.words}: ${name}`,
-      {onclick: () => convert(file)})] : []),
-    button("remove", "Remove", `Remove ${name}`, {onclick: () => remove(k)})];
+                      {onclick: () => convert(file)})] :
+                    []),
+    button("remove", "Remove", `Remove ${name}`, {onclick: () => remove(k)})
+  ];
 }
 
 function unitsOf(file, k) {
@@ -82,8 +94,8 @@ function noteOf({form = null, note = null}) {
 
 function focusRow(k, kind) {
   const there = byId("files").children[k];
-  const control = there?.querySelector(`.${kind}:enabled`)
-    ?? there?.querySelector("button:enabled");
+  const control =
+    there?.querySelector(`.${kind}:enabled`) ?? there?.querySelector("button:enabled");
   (control ?? byId("choose")).focus();
 }
 
@@ -111,9 +123,12 @@ function removeAll() {
 function onKey(event) {
   const k = rowOf(event.target);
   const step = {ArrowUp: -1, ArrowDown: 1}[event.key];
-  if (event.altKey && step) move(k, k + step, step < 0 ? "up" : "down");
-  else if (event.key === "Delete") remove(k);
-  else return;
+  if (event.altKey && step)
+    move(k, k + step, step < 0 ? "up" : "down");
+  else if (event.key === "Delete")
+    remove(k);
+  else
+    return;
   event.preventDefault();
 }
 
@@ -153,7 +168,7 @@ async function formOf(bytes) {
  */
 async function useForm(file) {
   const name = `${file.name}, ${file.form.named}`, {bytes} = file.form,
-    k = state.files.indexOf(file);
+        k = state.files.indexOf(file);
   const action = `${shownName(name)} is in place of ${shownName(file.name)}.`;
   if (k < 0) return;
   if (isVolume(bytes)) {
@@ -219,8 +234,10 @@ function offersFor({answer}) {
   if (file?.form || file?.note) return instead(file);
   const unit = listed([answer?.name ?? ""]);
   return havingUnit(answer ?? {}).map((file) => ({
-    sentence: `${shownName(file.name)} has ${unit}.`, words: `Take ${shownName(file.name)}`,
-    act: () => takeAgain(file)}));
+    sentence: `${shownName(file.name)} has ${unit}.`,
+    words: `Take ${shownName(file.name)}`,
+    act: () => takeAgain(file)
+  }));
 }
 
 function takeAgain(file) {
@@ -249,8 +266,10 @@ async function add(all) {
     try {
       await progress(size, `Reading file ${k + 1} of ${all.length}: ${shownName(file.name)}`);
       const bytes = await read(file);
-      if (isVolume(bytes)) await open(file.name, bytes);
-      else added.push(await given(file.name, bytes));
+      if (isVolume(bytes))
+        await open(file.name, bytes);
+      else
+        added.push(await given(file.name, bytes));
     } catch (error) {
       if (!(error instanceof UnreadError)) throw error;
       lost.push(`${shownName(file.name)}: ${error.message}`);
@@ -297,7 +316,8 @@ async function look() {
   drawFiles();
   if (files.length === 0) return drawNothing();
   const size = files.reduce((sum, {bytes}) => sum + bytes.length, 0);
-  await progress(size, `Linking ${count(files.length, "file")} of ${Math.ceil(size / MEGABYTE)} MiB`);
+  await progress(
+    size, `Linking ${count(files.length, "file")} of ${Math.ceil(size / MEGABYTE)} MiB`);
   if (round !== state.round) return undefined;
   const result = await pslink.link(files);
   await progress(size, "Writing the report");
@@ -329,16 +349,17 @@ function changed(...actions) {
  * not.
  */
 function drawPicture(files, {result, report}) {
-  const large = files.filter(({bytes}) => bytes.length > DRAWN_MAX).map(({name}) =>
-    shownName(name));
+  const large =
+    files.filter(({bytes}) => bytes.length > DRAWN_MAX).map(({name}) => shownName(name));
   if (!result.done && !result.fault) return pictureBox.hide();
-  if (large.length) return pictureBox.hide(`There is no picture of files of more than 4 MiB: ${large.join(", ")}.`);
+  if (large.length)
+    return pictureBox.hide(`There is no picture of files of more than 4 MiB: ${large.join(", ")}.`);
   return pictureBox.show(() => modelOf(pslink, files, result, report));
 }
 
 function onSavePicture() {
   const host = baseOf(hostOf() ?? {name: ""}).replace(/^.*:/, ""),
-    name = nameOfFile(host).replace(/(\.[^.]*)?$/, ".picture.svg");
+        name = nameOfFile(host).replace(/(\.[^.]*)?$/, ".picture.svg");
   const svg = pictureBox.file(`The link of ${shownName(host)}`);
   if (svg === null) return say(NOT_YET);
   saveFile(name, svg, "image/svg+xml");
@@ -376,8 +397,11 @@ function onSave(event) {
 async function open(name, bytes) {
   const volume = openVolume(bytes), opened = {image: name, volume, entries: []};
   for (const file of volume.files) opened.entries.push({file, ...await entryOf(volume, file)});
-  const acts = {choose: (entry) => choose(opened, entry), close: () => closeVolume(opened),
-    save: (entry) => saveEntry(opened, entry)};
+  const acts = {
+    choose: (entry) => choose(opened, entry),
+    close: () => closeVolume(opened),
+    save: (entry) => saveEntry(opened, entry)
+  };
   opened.box = volumeBox(opened, acts);
   byId("volume-list").append(opened.box);
   state.volumes.push(opened);
@@ -470,8 +494,9 @@ function listen() {
   byId("files").addEventListener("keydown", onKey);
   byId("remove-all").addEventListener("click", removeAll);
   byId("saving").addEventListener("submit", guarded(onSave));
-  byId("save-name").addEventListener("input", () =>
-    { state.namedFor = hostOf().entry ?? hostOf(); });
+  byId("save-name").addEventListener("input", () => {
+    state.namedFor = hostOf().entry ?? hostOf();
+  });
   byId("putting").addEventListener("submit", guarded(onPut));
   listenToPutting();
   pictureBox.watch(guarded);
@@ -490,11 +515,11 @@ function bytesOf(base64) {
 }
 
 async function start() {
-  setTerms([...document.querySelectorAll("#manual-warnings dt")].map(({id, textContent}) => ({
-    id, pattern: patternOf(textContent)})));
+  setTerms([...document.querySelectorAll("#manual-warnings dt")].map(
+    ({id, textContent}) => ({id, pattern: patternOf(textContent)})));
   pslink = await load(bytesOf(byId("module").textContent));
   const release = await pslink.release(),
-    parts = [10000, 100, 1].map((of) => Math.floor(release / of) % 100);
+        parts = [10000, 100, 1].map((of) => Math.floor(release / of) % 100);
   byId("release").textContent = `pslink ${parts.join(".")}`;
   listen();
   openPlace(location.hash);

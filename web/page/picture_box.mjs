@@ -10,8 +10,15 @@ import {pointsAt} from "../strips.mjs";
 import {byId} from "./common.mjs";
 import {segmentBox} from "./segment.mjs";
 
-const STEPS = {__proto__: null, ArrowDown: 1, ArrowRight: 1, ArrowUp: -1, ArrowLeft: -1, " ": 0,
-  Enter: 0};
+const STEPS = {
+  __proto__: null,
+  ArrowDown: 1,
+  ArrowRight: 1,
+  ArrowUp: -1,
+  ArrowLeft: -1,
+  " ": 0,
+  Enter: 0
+};
 const NEAR = "200px"; // so far below the window the picture is drawn
 
 /** The same as a table. */
@@ -21,11 +28,10 @@ function tableOf({segments, inputs, edges, slots}) {
   const edgeOf = ({kind, to, count}) => `${slots[to].name} ${count} (${kind})`;
   const referred = (from) => edges.filter((edge) => edge.from === from).map(edgeOf).join(", ");
   const rowOf = ({slot, name, role, file, entry, block, length, stores, changes}) =>
-    cells("td", twoDigits(slot), name, role,
-    `${shownName(inputs[file].name)}, entry ${entry}`, block, grouped(length), stores.length,
-      changes.length, referred(slot));
-  const heads = cells("th", "Slot", "Name", "What", "From", "Block", "Bytes", "Stored", "Differ",
-    "Refers to");
+    cells("td", twoDigits(slot), name, role, `${shownName(inputs[file].name)}, entry ${entry}`,
+      block, grouped(length), stores.length, changes.length, referred(slot));
+  const heads =
+    cells("th", "Slot", "Name", "What", "From", "Block", "Bytes", "Stored", "Differ", "Refers to");
   return made("table", {}, heads, ...segments.map(rowOf));
 }
 
@@ -38,8 +44,8 @@ function showHere({panels, strip}, byte) {
 function showLit({panels}, slot) {
   for (const svg of panels) {
     svg.classList.toggle("chosen", slot !== null);
-    for (const it of svg.querySelectorAll(".of-slot")) it.classList.toggle("lit",
-      Number(it.dataset.slot) === slot);
+    for (const it of svg.querySelectorAll(".of-slot"))
+      it.classList.toggle("lit", Number(it.dataset.slot) === slot);
     for (const it of svg.querySelectorAll(".edge")) {
       it.classList.toggle("lit", [it.dataset.from, it.dataset.to].includes(String(slot)));
     }
@@ -68,11 +74,11 @@ export class PictureBox {
   constructor() {
     this.#box.addEventListener("click", (event) => this.#onClick(event));
     this.#box.addEventListener("keydown", (event) => this.#onKey(event));
-    this.#box.addEventListener("pointerover", (event) =>
-      this.#light(event.pointerType === "mouse" ? this.#slotAt(event) : null));
+    this.#box.addEventListener("pointerover",
+      (event) => this.#light(event.pointerType === "mouse" ? this.#slotAt(event) : null));
     this.#box.addEventListener("pointerleave", () => this.#light(null));
-    new ResizeObserver(() => this.#box.clientWidth !== this.#drawing?.room
-      && this.#draw()).observe(this.#box);
+    new ResizeObserver(() => this.#box.clientWidth !== this.#drawing?.room && this.#draw())
+      .observe(this.#box);
   }
 
   /** Draws each link once the section is near the window: `guard` tells what fails. */
@@ -134,20 +140,21 @@ export class PictureBox {
     const {panels: trees, strip} = picture(model, room), panels = trees.map(elementOf);
     const focused = document.activeElement.closest(".choice")?.dataset.slot;
     this.#drawing = {panels, strip, room};
-    this.#box.replaceChildren(panels[0], made("div", {id: "picture-segment", hidden: true}),
-      ...panels.slice(1));
+    this.#box.replaceChildren(
+      panels[0], made("div", {id: "picture-segment", hidden: true}), ...panels.slice(1));
     byId("pictured").classList.remove("waits");
     byId("picture-told").textContent = toldOfPicture(model);
     byId("picture-table").replaceChildren(...(model.fault ? [] : [tableOf(model)]));
-    for (const it of document.querySelectorAll("#pictured .drawn")) it.hidden = Boolean(model.fault)
-      && !it.matches(".acts");
+    for (const it of document.querySelectorAll("#pictured .drawn"))
+      it.hidden = Boolean(model.fault) && !it.matches(".acts");
     if (!model.fault) this.#choose(this.#chosen);
-    if (focused !== undefined) this.#box.querySelector(`.choice[data-slot="${focused}"]`)?.focus({preventScroll: true});
+    if (focused !== undefined)
+      this.#box.querySelector(`.choice[data-slot="${focused}"]`)?.focus({preventScroll: true});
   }
 
   #choose(slot) {
-    const model = this.#model, segment = slot === DICTIONARY ? model.dictionary : model.slots[slot]
-      ?? null;
+    const model = this.#model,
+          segment = slot === DICTIONARY ? model.dictionary : model.slots[slot] ?? null;
     const box = byId("picture-segment"), drawing = this.#drawing;
     this.#chosen = segment && slot;
     showChoice(drawing, this.#chosen);
@@ -175,7 +182,7 @@ export class PictureBox {
 
   #onKey(event) {
     const choices = [...this.#box.querySelectorAll(".choice")],
-      k = choices.indexOf(event.target.closest(".choice"));
+          k = choices.indexOf(event.target.closest(".choice"));
     if (k < 0 || !this.#drawing || event.altKey || event.ctrlKey || event.metaKey) return;
     if (event.key === "Escape") this.#choose(null);
     const step = event.key in STEPS ? k + STEPS[event.key] + choices.length : null;

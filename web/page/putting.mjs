@@ -12,8 +12,8 @@ const CODE_FILE = 2, ENDING = ".L.CODE", BASE_MAX = 8; // a name has 15 characte
 
 /** The volume that a person chose, or else that of the host, or else the first. */
 function targetVolume() {
-  return state.volumes.find((opened) => opened === state.target)
-    ?? state.volumes.find(({entries}) => entries.includes(hostOf().entry)) ?? state.volumes[0];
+  return state.volumes.find((opened) => opened === state.target) ??
+    state.volumes.find(({entries}) => entries.includes(hostOf().entry)) ?? state.volumes[0];
 }
 
 /**
@@ -23,10 +23,10 @@ const lastOf = (opened) => opened.copy ?? opened;
 
 /** A name that a new file of the volume can have, and no file of it has. */
 function nameOnVolume(host, {files}) {
-  const letters = host.replace(/^.*:/, "").toUpperCase().replace(/\.CODE$/,
-    "").replace(/[^A-Z0-9]/g, "");
+  const letters =
+    host.replace(/^.*:/, "").toUpperCase().replace(/\.CODE$/, "").replace(/[^A-Z0-9]/g, "");
   const taken = new Set(files.map(({name}) => name.toUpperCase())), base = letters || "LINKED";
-  for (let number = 1; ; number++) {
+  for (let number = 1;; number++) {
     const end = number === 1 ? "" : String(number);
     const name = `${base.slice(0, BASE_MAX - end.length)}${end}${ENDING}`;
     if (!taken.has(name)) return name;
@@ -35,8 +35,8 @@ function nameOnVolume(host, {files}) {
 
 /** The volumes as a choice: where two have the same words, the later ones have a number. */
 function optionsOf(volumes) {
-  const words = volumes.map(({image, volume}) =>
-    `${shownName(volume.name)}: of ${shownName(image)}`);
+  const words =
+    volumes.map(({image, volume}) => `${shownName(volume.name)}: of ${shownName(image)}`);
   return words.map((one, k) => {
     const before = words.slice(0, k).filter((other) => other === one).length;
     return made("option", {textContent: before ? `${one} (${before + 1})` : one});
@@ -90,19 +90,20 @@ function placeOf(volume, name) {
  * What a person may not want: the host is lost in the copy, or the p-System does not run the file.
  */
 function warningsOf(volume, name, old) {
-  const isSame = (one, other) => one.length === other.length
-    && one.every((byte, k) => byte === other[k]);
+  const isSame = (one, other) =>
+    one.length === other.length && one.every((byte, k) => byte === other[k]);
   const isHost = old && isSame(volume.take(old), hostOf().bytes);
   return [
     ...(isHost ? ["It is the host: the unlinked host is then in the old image alone."] : []),
-    ...(/\.CODE$/i.test(name) ? []
-      : ["A file that the p-System runs has a name that ends with .CODE."]),
+    ...(/\.CODE$/i.test(name) ? [] :
+                                ["A file that the p-System runs has a name that ends with .CODE."]),
   ];
 }
 
 function drawWarnings(sentences) {
-  byId("put-warnings").replaceChildren(...sentences.map((textContent) =>
-    made("p", {className: "warning", textContent})));
+  byId("put-warnings")
+    .replaceChildren(
+      ...sentences.map((textContent) => made("p", {className: "warning", textContent})));
 }
 
 /** Which image the next put goes on with. */
@@ -115,9 +116,10 @@ function drawLast(opened) {
     drawPlace();
     byId("put-name").focus();
   };
-  return box.replaceChildren(`It goes on with ${shownName(copy.image)}, which has ${copy.names.map(shownName).join(", ")}. `,
-    made("button", {type: "button", textContent: `Go back to ${shownName(opened.image)}`,
-      onclick: again}));
+  return box.replaceChildren(
+    `It goes on with ${shownName(copy.image)}, which has ${copy.names.map(shownName).join(", ")}. `,
+    made("button",
+      {type: "button", textContent: `Go back to ${shownName(opened.image)}`, onclick: again}));
 }
 
 function tellPut(sentence) {
@@ -153,5 +155,7 @@ export function listenToPutting() {
     state.offered.isWritten = true;
     drawPlace();
   });
-  byId("put-image").addEventListener("input", () => { state.isImageNamed = true; });
+  byId("put-image").addEventListener("input", () => {
+    state.isImageNamed = true;
+  });
 }

@@ -37,8 +37,11 @@ function partOf(pslink, {kind, title, files}, result) {
   const name = byId("texts").querySelector(`[data-text=${kind}] summary`).textContent;
   const label = title === null ? name : `${name}: ${shownName(title)}`;
   const button = (textContent, isJson) => made("button", {
-    type: "button", textContent, label: `${textContent}: ${label}`,
-    onclick: guarded(() => saveText(pslink, kind, files, isJson))});
+    type: "button",
+    textContent,
+    label: `${textContent}: ${label}`,
+    onclick: guarded(() => saveText(pslink, kind, files, isJson))
+  });
   const buttons = () => [button("Save as text", false), button("Save as JSON", true)];
   return [
     ...(title === null ? [] : [made("h3", {}, nameOf(title))]),
@@ -52,8 +55,8 @@ function partOf(pslink, {kind, title, files}, result) {
  * text.
  */
 function textBox(label, text) {
-  const lines = linesOf(text).map(({line, kind}, k) => made("span", {className: kind},
-    ...(k ? ["\n"] : []), ...pieces(line)));
+  const lines = linesOf(text).map(
+    ({line, kind}, k) => made("span", {className: kind}, ...(k ? ["\n"] : []), ...pieces(line)));
   const box = made("pre", {tabIndex: 0, label}, ...lines);
   box.setAttribute("role", "region");
   return box;

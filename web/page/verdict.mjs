@@ -10,10 +10,12 @@ import {linesOf, piecesOf, sentencesOf} from "./lines.mjs";
 
 const OTHERWISE = {
   __proto__: null,
-  "no memory": ["There is not enough memory for these files.",
-    "Close other pages, or give fewer files."],
-  trapped: ["The module stopped.",
-    "That is a fault of pslink or of the browser, and not of the files. Nothing was linked."],
+  "no memory":
+    ["There is not enough memory for these files.", "Close other pages, or give fewer files."],
+  trapped: [
+    "The module stopped.",
+    "That is a fault of pslink or of the browser, and not of the files. Nothing was linked."
+  ],
 };
 
 const LONG = 4194304, SOON = 100; // bytes that take a while, and milliseconds
@@ -27,8 +29,8 @@ export function setTerms(known) {
 
 /** A line as the page shows it, with links to the manual. */
 export function pieces(line) {
-  return piecesOf(line, terms).map(({text, anchor}) => anchor
-    ? made("a", {href: `#${anchor}`, textContent: text}) : text);
+  return piecesOf(line, terms).map(({text,
+    anchor}) => anchor ? made("a", {href: `#${anchor}`, textContent: text}) : text);
 }
 
 /** Tells what came of the files, and offers what a person may do: each offer is a button. */
@@ -37,8 +39,9 @@ export function tell(kind, headline, sentences, offers = []) {
   const wasOffered = byId("offers").contains(document.activeElement);
   outcome.className = kind;
   const buttons = offers.filter(({words}) => words);
-  byId("offers").replaceChildren(...buttons.map(({words, act}) => made("button", {
-    type: "button", className: "main", textContent: words, onclick: act})));
+  byId("offers").replaceChildren(
+    ...buttons.map(({words, act}) => made("button",
+                     {type: "button", className: "main", textContent: words, onclick: act})));
   outcome.replaceChildren(made("strong", {textContent: headline}), ...lines);
   byId("verdict").hidden = false;
   outcome.scrollTop = 0;
@@ -99,24 +102,29 @@ function findingsOf(report) {
   const lines = linesOf(report.text ?? "").map(({line}) => line);
   const warnings = report.answer?.warnings ?? 0;
   const notes = lines.filter((line) => line.startsWith("note: ")).length;
-  const found = [warnings && count(warnings, "warning"), notes
-    && count(notes, "note")].filter(Boolean);
+  const found =
+    [warnings && count(warnings, "warning"), notes && count(notes, "note")].filter(Boolean);
   const first = lines.find((line) => line.startsWith("warning: "));
-  return {warnings, sentences: [
-    ...(warnings && first ? [first] : []),
-    ...(found.length ? [`The report has ${found.join(" and ")}.`] : []),
-    ...(report.done ? [] : [`There is no report: ${report.status}.`]),
-  ]};
+  return {
+    warnings,
+    sentences: [
+      ...(warnings && first ? [first] : []),
+      ...(found.length ? [`The report has ${found.join(" and ")}.`] : []),
+      ...(report.done ? [] : [`There is no report: ${report.status}.`]),
+    ]
+  };
 }
 
 function tellLink({result, report}) {
   const {segments, privateWords, blocks, size} = result.answer,
-    {warnings, sentences} = findingsOf(report);
-  const parts = [count(segments, "segment"), count(privateWords, "private word"),
-    count(blocks, "block")];
+                                         {warnings, sentences} = findingsOf(report);
+  const parts =
+    [count(segments, "segment"), count(privateWords, "private word"), count(blocks, "block")];
   const made = `${parts.join(", ")}: ${count(size, "byte")}.`;
-  if (warnings) tell("warned", "The files link, with warnings.", [...sentences, made]);
-  else tell("good", "The files link.", [made, ...sentences]);
+  if (warnings)
+    tell("warned", "The files link, with warnings.", [...sentences, made]);
+  else
+    tell("good", "The files link.", [made, ...sentences]);
 }
 
 /** Tells what came of a link. */

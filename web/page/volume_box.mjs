@@ -9,8 +9,8 @@ import {count, hasCode, listed, nameOf} from "./common.mjs";
 const CODE_FILE = 2; // the kind of a code file in a directory
 const FIRST = 3; // so many warnings of a volume are shown at once
 
-const partsOfVolume = ({format, bigEndian, blocks, freeBlocks, duplicate}) => [
-  format, bigEndian ? "big-endian" : "little-endian", count(blocks, "block"), `${freeBlocks} free`,
+const partsOfVolume = ({format, bigEndian, blocks, freeBlocks, duplicate}) => [format,
+  bigEndian ? "big-endian" : "little-endian", count(blocks, "block"), `${freeBlocks} free`,
   ...(duplicate ? ["a duplicate directory"] : [])].join(", ");
 
 const dateParts = ({year, month, day}) => [year, month, day];
@@ -38,8 +38,12 @@ function entryLine(entry, of, {choose, save}) {
     part("size", count(file.size, "byte")), part("date", dayOf(file.date)),
     part("what", kind), part("units", unitsOf(entry)));
   return made("li", {}, label, made("button", {
-    type: "button", disabled, textContent: "Save", label: `Save ${shownName(`${of}:${file.name}`)}`,
-    onclick: () => save(entry)}));
+    type: "button",
+    disabled,
+    textContent: "Save",
+    label: `Save ${shownName(`${of}:${file.name}`)}`,
+    onclick: () => save(entry)
+  }));
 }
 
 /** What there is to say of a volume: the first sentences, and how many more there are. */
@@ -54,8 +58,8 @@ function warningsOf(sentences) {
 /** The other files of a volume, which are shown when a person asks for them. */
 function othersOf(others, list) {
   if (others.length === 0) return [];
-  return [made("details", {}, made("summary", {textContent: count(others.length, "other file")}),
-    list)];
+  return [made(
+    "details", {}, made("summary", {textContent: count(others.length, "other file")}), list)];
 }
 
 /**
@@ -70,7 +74,11 @@ export function volumeBox({image, volume, entries}, acts) {
   const codeList = list(code, `Code files of ${volume.name}`);
   const otherList = list(others, `Other files of ${volume.name}`);
   const button = made("button", {
-    type: "button", textContent: "Close", label: `Close ${shownName(image)}`, onclick: acts.close});
+    type: "button",
+    textContent: "Close",
+    label: `Close ${shownName(image)}`,
+    onclick: acts.close
+  });
   return made("div", {className: "volume"},
     made("div", {className: "title"}, made("h3", {}, nameOf(`${volume.name}:`)), button),
     made("p", {className: "quiet"}, nameOf(image), `: ${partsOfVolume(volume)}`),

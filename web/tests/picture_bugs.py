@@ -224,8 +224,8 @@ BUGS = [
     (
         "the focus is lost after a redraw",
         "picture_box.mjs",
-        "if (focused !== undefined) this",
-        "if (false) this",
+        "if (focused !== undefined)\n      this",
+        "if (false)\n      this",
         "drawing",
     ),
     (
