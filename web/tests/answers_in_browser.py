@@ -1,7 +1,9 @@
 #!/usr/bin/env python3
-"""Compares what the module answers in a browser with what native.py wrote of the same files, as compare.mjs does in node: each field,
-the line of the fault, and the SHA-256 of what is made; and prints how long a link took. By hand: the gate does it in node.
-Usage: answers_in_browser.py BROWSER MODULE ANSWERS, of a browser as for test_page.py. The last line is 'N passed, M failed'"""
+"""Compares what the module answers in a browser with what native.py wrote of the same files, as
+compare.mjs does in node: each field, the line of the fault, and the SHA-256 of what is made; and
+prints how long a link took. By hand: the gate does it in node.
+Usage: answers_in_browser.py BROWSER MODULE ANSWERS, of a browser as for test_page.py. The last line
+is 'N passed, M failed'"""
 import base64
 import itertools
 import json
@@ -16,10 +18,11 @@ EACH = 50  # sets of files that are handed over at once
 TELL = """
 export async function told({answer, reason, fault = null, bytes = new Uint8Array()}) {
   if (answer === null) return [reason];
-  const {status, fault: number, file, record, reference, slot, kind, name, segments, privateWords, blocks, warnings, size} = answer;
+  const {status, fault: number, file, record, reference, slot, kind, name} = answer;
+  const {segments, privateWords, blocks, warnings, size} = answer;
   const digest = new Uint8Array(await crypto.subtle.digest("SHA-256", bytes));
-  return [status, number, file, record, reference, slot, kind, name, segments, privateWords, blocks, warnings, size, fault,
-    [...digest].map((it) => it.toString(16).padStart(2, "0")).join("")];
+  return [status, number, file, record, reference, slot, kind, name, segments, privateWords, blocks,
+    warnings, size, fault, [...digest].map((it) => it.toString(16).padStart(2, "0")).join("")];
 }
 export const bytesOf = (text) => Uint8Array.from(atob(text), (it) => it.charCodeAt(0));
 export async function answersOf(pslink, sets) {
@@ -35,7 +38,8 @@ export async function answersOf(pslink, sets) {
     const milliseconds = performance.now() - began;
     for (const name of names) {
       const [kind, form] = name.split(" ");
-      made[name] = await told(kind === "link" ? await pslink.link(given) : await pslink.text(kind, given, {json: form === "json"}));
+      made[name] = await told(kind === "link" ? await pslink.link(given)
+        : await pslink.text(kind, given, {json: form === "json"}));
     }
     all.push({made, milliseconds});
   }
@@ -52,18 +56,25 @@ def prepare(browser, module):
     browser.until("document.title === 'blank'")
     for text in ((WEB / "pslink.mjs").read_text(), TELL):
         source = base64.b64encode(text.encode()).decode()
-        browser.value(f"(async () => Object.assign(window, await import('data:text/javascript;base64,{source}')) && 1)()")
-    browser.value(f"(async () => {{ window.pslink = await load(bytesOf('{base64.b64encode(module).decode()}')); }})()")
+        browser.value(
+            "(async () => Object.assign(window, await "
+            f"import('data:text/javascript;base64,{source}')) && 1)()")
+    browser.value(
+        f"(async () => {{ window.pslink = await "
+        f"load(bytesOf('{base64.b64encode(module).decode()}')); }})()")
 
 
 def compare(browser, sets):
-    """What differs of these sets of files, how many answers there are, and the milliseconds of each link."""
+    """What differs of these sets of files, how many answers there are, and the milliseconds of each
+    link."""
     given = json.dumps([{"files": it["files"], "names": list(it["answers"])} for it in sets])
     differing, count, times = [], 0, []
     for wanted, got in zip(sets, browser.value(f"answersOf(pslink, {given})")):
         times.append(got["milliseconds"])
         count += len(wanted["answers"])
-        differing += [(wanted["name"], name, answer, got["made"][name]) for name, answer in wanted["answers"].items() if got["made"][name] != answer]
+        differing += [(wanted["name"], name, answer, got["made"][name])
+                      for name, answer in wanted["answers"].items()
+                      if got["made"][name] != answer]
     return differing, count, times
 
 
@@ -80,7 +91,9 @@ def main(name, module, answers):
         browser.close()
     for each in differing[:20]:
         print(*each, sep="\n  ")
-    print(f"{browser.version}: {len(times)} sets of files in {time.monotonic() - began:.0f} s, a link {sorted(times)[len(times) // 2]:.2f} ms in the middle")
+    print(
+        f"{browser.version}: {len(times)} sets of files in {time.monotonic() - began:.0f} s, a "
+        f"link {sorted(times)[len(times) // 2]:.2f} ms in the middle")
     print(f"{count - len(differing)} passed, {len(differing)} failed")
     return 1 if differing or not count else 0
 

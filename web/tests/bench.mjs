@@ -1,15 +1,20 @@
-// The times of a link and of a report on the samples: of the module's function by itself, and with all that pslink.mjs does around it.
-// Usage: bench.mjs MODULE SAMPLES
+// The times of a link and of a report on the samples: of the module's function by itself, and with
+// all that pslink.mjs does around it. Usage: bench.mjs MODULE SAMPLES
 import {readFileSync} from "node:fs";
 import {load} from "../pslink.mjs";
 
 const [module, samples] = process.argv.slice(2), FIRST = 3000, TIMES = 5000;
-const files = ["host.code", "library.code"].map((name) => ({name, bytes: readFileSync(`${samples}/${name}`)}));
+const files =
+  ["host.code", "library.code"].map((name) => ({name, bytes: readFileSync(`${samples}/${name}`)}));
 const pslink = await load(readFileSync(module));
-const calls = {link: () => pslink.link(files), check: () => pslink.text("check", files)};
+const calls = {
+  link: () => pslink.link(files),
+  check: () => pslink.text("check", files)
+};
 
 /** How many microseconds each call takes, of so many. */
-const each = (begun, times) => `${(1000 * (performance.now() - begun) / times).toFixed(1)} microseconds`;
+const each = (begun, times) =>
+  `${(1000 * (performance.now() - begun) / times).toFixed(1)} microseconds`;
 
 /** Has a function of the module called many times, where it is called once. */
 function many(call) {
@@ -25,8 +30,11 @@ function many(call) {
 async function inOneInstance(call) {
   const {instantiate} = WebAssembly;
   WebAssembly.instantiate = async (...words) => {
-    const {exports} = await instantiate(...words), {pslink_link_nonnull: link, pslink_text_nonnull: text} = exports;
-    return {exports: {...exports, pslink_link_nonnull: many(link), pslink_text_nonnull: many(text)}};
+    const {exports} = await instantiate(...words),
+          {pslink_link_nonnull: link, pslink_text_nonnull: text} = exports;
+    return {
+      exports: {...exports, pslink_link_nonnull: many(link), pslink_text_nonnull: many(text)}
+    };
   };
   await call();
   WebAssembly.instantiate = instantiate;

@@ -10,8 +10,10 @@ export class Checks {
   #failed = 0;
 
   is(what, holds, more = "") {
-    if (holds) this.#passed++;
-    else if (++this.#failed <= 20) console.log(`${what} ${more}`.slice(0, LONGEST));
+    if (holds)
+      this.#passed++;
+    else if (++this.#failed <= 20)
+      console.log(`${what} ${more}`.slice(0, LONGEST));
   }
 
   same(what, found, wanted) {
@@ -21,7 +23,8 @@ export class Checks {
 
   /** So many sets of files were tried, which are enough. */
   enough(sets) {
-    this.is("the sets of files", sets >= FEWEST, `are ${sets}, and ${FEWEST} at least are to be tried`);
+    this.is(
+      "the sets of files", sets >= FEWEST, `are ${sets}, and ${FEWEST} at least are to be tried`);
   }
 
   /** Prints the counts; a test that checked nothing fails too. */

@@ -1,6 +1,7 @@
-// Compares what the module answers with what native.py wrote of the same files: each field, the line of the fault and each byte of what
-// is made; and what pslink.mjs gives beside the answer. Usage: compare.mjs MODULE ANSWERS [PART PARTS], of all sets of files or of one of
-// so many parts of them, counted from 0
+// Compares what the module answers with what native.py wrote of the same files: each field, the
+// line of the fault and each byte of what is made; and what pslink.mjs gives beside the answer.
+// Usage: compare.mjs MODULE ANSWERS [PART PARTS], of all sets of files or of one of so many parts
+// of them, counted from 0
 import {createHash} from "node:crypto";
 import {createReadStream, readFileSync} from "node:fs";
 import {createInterface} from "node:readline";
@@ -21,9 +22,11 @@ function told({answer, reason, fault = null, bytes = new Uint8Array()}) {
 /** What stands beside the answer is what the answer says. */
 function checkBeside(what, result, encoding) {
   const {done, status, answer, bytes, fault} = result;
-  checks.is(`${what}: the status`, status === STATUSES[answer?.status] && done === (answer.status === 0), status);
+  checks.is(`${what}: the status`,
+    status === STATUSES[answer?.status] && done === (answer.status === 0), status);
   checks.is(`${what}: the bytes`, done ? bytes.length === answer.size : bytes === undefined);
-  checks.is(`${what}: the line of the fault`, (answer?.fault !== 0) === (fault !== undefined), fault);
+  checks.is(
+    `${what}: the line of the fault`, (answer?.fault !== 0) === (fault !== undefined), fault);
   const text = encoding && done ? Buffer.from(bytes).toString(encoding) : undefined;
   checks.is(`${what}: the text`, result.text === text);
 }
@@ -48,7 +51,8 @@ async function checkSet(pslink, set) {
   for (const name of Object.keys(set.answers)) await checkAnswer(pslink, set, name, files);
 }
 
-const [module, answers, part = 0, parts = 1] = process.argv.slice(2), pslink = await load(readFileSync(module));
+const [module, answers, part = 0, parts = 1] = process.argv.slice(2),
+                                          pslink = await load(readFileSync(module));
 let sets = 0, found = 0;
 for await (const line of createInterface({input: createReadStream(answers), crlfDelay: Infinity})) {
   if (sets++ % parts !== Number(part)) continue;

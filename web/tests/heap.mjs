@@ -1,6 +1,7 @@
-// Holds what pslink.mjs hands to the module to what is assumed of it, call by call: a block that the module asks for is in the memory,
-// above the stack and the constants, aligned to 16, and apart from all that is in use; it is given back once; and so are the parts that
-// a call is handed. Usage: heap.mjs MODULE ANSWERS STEP: of the sets that native.py wrote, each STEP-th
+// Holds what pslink.mjs hands to the module to what is assumed of it, call by call: a block that
+// the module asks for is in the memory, above the stack and the constants, aligned to 16, and apart
+// from all that is in use; it is given back once; and so are the parts that a call is handed.
+// Usage: heap.mjs MODULE ANSWERS STEP: of the sets that native.py wrote, each STEP-th
 import {createReadStream, readFileSync} from "node:fs";
 import {createInterface} from "node:readline";
 import {TEXTS, load} from "../pslink.mjs";
@@ -21,8 +22,11 @@ class Use {
 
   /** A part is in the memory, aligned, and meets no other. */
   add(what, at, size, alignment) {
-    checks.is(what, at % alignment === 0 && at >= this.base && at + size <= this.memory.buffer.byteLength, `is at ${at} and has ${size} bytes`);
-    const met = size === 0 ? undefined : [...this.#parts, ...this.#blocks].find(([other, length]) => at < other + length && other < at + size);
+    checks.is(what,
+      at % alignment === 0 && at >= this.base && at + size <= this.memory.buffer.byteLength,
+      `is at ${at} and has ${size} bytes`);
+    const met = size === 0 ? undefined : [...this.#parts,
+      ...this.#blocks].find(([other, length]) => at < other + length && other < at + size);
     checks.is(what, met === undefined, `at ${at}, of ${size} bytes, meets that at ${met}`);
   }
 
@@ -61,7 +65,10 @@ function watched({page_alloc, page_dealloc}, use) {
   };
 }
 
-/** A function that is handed parts, each as its place and how much it has: bytes, or lengths of eight bytes; and last an answer. */
+/**
+ * A function that is handed parts, each as its place and how much it has: bytes, or lengths of
+ * eight bytes; and last an answer.
+ */
 function handed(name, call, first, tables, use) {
   return (...words) => {
     const numbers = words.slice(first).map(Number);

@@ -1,6 +1,7 @@
 /*
- * How lines of the module are shown: the kind of each, what of it leads to the manual, and names. Expected values are typed by hand,
- * but for the terms of the manual, which are those in the page. Usage: node lines_test.mjs PAGE
+ * How lines of the module are shown: the kind of each, what of it leads to the manual, and names.
+ * Expected values are typed by hand, but for the terms of the manual, which are those in the page.
+ * Usage: node lines_test.mjs PAGE
  */
 import assert from "node:assert/strict";
 import {readFileSync} from "node:fs";
@@ -21,14 +22,22 @@ harmless: a: its last 2 bytes are 1A: it was padded, as by CP/M
 links: segments 2 private words 4 blocks 3
 copy or compile again: a; see WARNINGS in pslink(1)
 `;
-const KINDS = ["", "refused", "why", "why", "why", "why", "warning", "note", "note", "harmless", "", "links", ""];
+const KINDS = [
+  "", "refused", "why", "why", "why", "why", "warning", "note", "note", "harmless", "", "links", ""
+];
 
 // a line that each term of WARNINGS is about, and the number of the term
 const FOUND = [
-  ["warning: h.code, slot 07: slot 07 has the name UTIL, kind 0 and no code: no segment is linked there", 1],
+  [
+    "warning: h.code, slot 07: slot 07 has the name UTIL, kind 0 and no code: no segment is linked there",
+    1
+  ],
   ["warning: a, segment B: its bytes in the file overlap those of slot 03", 2],
   ["warning: a, segment B, record 1: the operand at byte 4 is word 2 of a variable that has 2", 3],
-  ["warning: a, segment B, record 0: the operand at byte 1 is word 5 of COUNT at base offset 3, and the end mark says that 8 is free", 4],
+  [
+    "warning: a, segment B, record 0: the operand at byte 1 is word 5 of COUNT at base offset 3, and the end mark says that 8 is free",
+    4
+  ],
   ["note: a: it may be a gzip file", 10],
   ["harmless: a: its last 2 bytes are 1A: it was padded, as by CP/M", 11],
   ["note: a: bytes 512 to 1023 are there twice, one after the other: they may have been read twice", 12],
@@ -43,21 +52,32 @@ function same(got, wanted) {
 
 const page = readFileSync(process.argv[2], "utf8");
 const plain = (html) => html.replace(/<[^>]*>/g, "").replace(/&#x27;/g, "'").replace(/&amp;/g, "&");
-const terms = [...page.matchAll(/<dt id="(manual-warnings-\d+)">(.*?)<\/dt>/gs)].map(([, id, term]) => ({id, term: plain(term), pattern: patternOf(plain(term))}));
-const anchors = (line) => piecesOf(line, terms).filter(({anchor}) => anchor).map(({text, anchor}) => [text, anchor]);
+const terms = [...page.matchAll(/<dt id="(manual-warnings-\d+)">(.*?)<\/dt>/gs)].map(
+  ([, id, term]) => ({id, term: plain(term), pattern: patternOf(plain(term))}));
+const anchors = (line) =>
+  piecesOf(line, terms).filter(({anchor}) => anchor).map(({text, anchor}) => [text, anchor]);
 
 same(linesOf(REPORT).map(({kind}) => kind), KINDS);
 same(linesOf(REPORT).map(({line}) => `${line}\n`).join(""), REPORT);
 const ownWords = (line) => line.replace(/ (in|of) pslink\(1\)/, " below");
-for (const {line} of linesOf(REPORT)) same(piecesOf(line, terms).map(({text}) => text).join(""), ownWords(line));
-same(sentencesOf(REPORT), ["No library has the unit that the slot wants.", "Give a library that has it, after host. If you gave it, see DAMAGED FILES in pslink(1)."]);
+for (const {line} of linesOf(REPORT))
+  same(piecesOf(line, terms).map(({text}) => text).join(""), ownWords(line));
+same(sentencesOf(REPORT), [
+  "No library has the unit that the slot wants.",
+  "Give a library that has it, after host. If you gave it, see DAMAGED FILES in pslink(1)."
+]);
 same(sentencesOf("links: segments 2 private words 4 blocks 3\n"), []);
-same(anchors("pslink: refused 13 MissingUnit file 0 slot 7"), [["refused 13 MissingUnit", "manual-diagnostics-13"]]);
-same(anchors("If you gave it, see DAMAGED FILES in pslink(1)."), [["DAMAGED FILES", "manual-damaged-files"]]);
-same(anchors("Damage is in DAMAGED FILES of pslink(1)."), [["DAMAGED FILES", "manual-damaged-files"]]);
-same(anchors("copy or compile again: a; see WARNINGS in pslink(1)"), [["WARNINGS", "manual-warnings"]]);
+same(anchors("pslink: refused 13 MissingUnit file 0 slot 7"),
+  [["refused 13 MissingUnit", "manual-diagnostics-13"]]);
+same(anchors("If you gave it, see DAMAGED FILES in pslink(1)."),
+  [["DAMAGED FILES", "manual-damaged-files"]]);
+same(
+  anchors("Damage is in DAMAGED FILES of pslink(1)."), [["DAMAGED FILES", "manual-damaged-files"]]);
+same(anchors("copy or compile again: a; see WARNINGS in pslink(1)"),
+  [["WARNINGS", "manual-warnings"]]);
 same(anchors("file 0 WARNINGS: 1536 bytes, little-endian"), []);
-for (const [line, number] of FOUND) same(anchors(line), [[/^\w+/.exec(line)[0], `manual-warnings-${number}`]]);
+for (const [line, number] of FOUND)
+  same(anchors(line), [[/^\w+/.exec(line)[0], `manual-warnings-${number}`]]);
 // each term is met by its own words and by no other term before it
 for (const {id, term} of terms) {
   const [, words, weight] = /^(.*) \((\w+)\)$/s.exec(term.replace(/\s+/g, " "));
@@ -66,10 +86,12 @@ for (const {id, term} of terms) {
 same(terms.length, 31);
 
 same(shownName("a\nb\u202ec\u200bd\"\\"), '"a\\nb\\u{202e}c\\u{200b}d\\"\\\\"');
-for (const hidden of ["2028", "2029", "34f", "115f", "180f", "206f", "3164", "fe0f", "fff9", "1d173", "e0001", "e0fff"]) {
+for (const hidden of ["2028", "2029", "34f", "115f", "180f", "206f", "3164", "fe0f", "fff9",
+       "1d173", "e0001", "e0fff"]) {
   same(shownName(`a${String.fromCodePoint(parseInt(hidden, 16))}b`), `"a\\u{${hidden}}b"`);
 }
-for (const shown of ["301", "a0", "2027", "202f", "205f", "2070", "fe10", "fffc", "1f4be", "e1000"]) {
+for (const shown
+       of ["301", "a0", "2027", "202f", "205f", "2070", "fe10", "fffc", "1f4be", "e1000"]) {
   const name = `a${String.fromCodePoint(parseInt(shown, 16))}b`;
   same(shownName(name), name);
 }

@@ -1,7 +1,8 @@
 #!/usr/bin/env python3
-"""Looks at the page as a file: what its policy allows, that it has the module and the scripts that it is made from, that no part of it
-leads out of it, that each link leads to a place in it, and that it is made again as the same bytes in another folder and another
-language. Prints each difference. Usage: made_page.py MODULE PAGE"""
+"""Looks at the page as a file: what its policy allows, that it has the module and the scripts that
+it is made from, that no part of it leads out of it, that each link leads to a place in it, and that
+it is made again as the same bytes in another folder and another language. Prints each difference.
+Usage: made_page.py MODULE PAGE"""
 import base64
 import hashlib
 import html
@@ -15,15 +16,21 @@ import sys
 import tempfile
 
 ROOT = pathlib.Path(__file__).resolve().parent.parent.parent
-NEEDED = ["web/page", *(f"web/{path.name}" for path in (ROOT / "web").glob("*.mjs")), "man/pslink.1", "LICENSE", "NOTICES", "samples/disk.po"]
+NEEDED = ["web/page", *(f"web/{path.name}" for path in (ROOT / "web").glob("*.mjs")),
+          "man/pslink.1", "LICENSE", "NOTICES", "samples/disk.po"]
 # what would make HTML or code of a text
-MAKERS = r"innerHTML|outerHTML|insertAdjacentHTML|createContextualFragment|parseFromString|setHTML|document\.write|\beval\(|new Function|javascript:|srcdoc"
+MAKERS = (
+    r"innerHTML|outerHTML|insertAdjacentHTML|createContextualFragment|parseFromString|setHTML|"
+    r"document\.write|\beval\(|new Function|javascript:|srcdoc")
 # what would speak to others, or keep anything
-SPEAKERS = r"XMLHttpRequest|\bfetch\(|WebSocket|EventSource|sendBeacon|localStorage|sessionStorage|indexedDB|document\.cookie|serviceWorker|postMessage"
+SPEAKERS = (
+    r"XMLHttpRequest|\bfetch\(|WebSocket|EventSource|sendBeacon|localStorage|sessionStorage|"
+    r"indexedDB|document\.cookie|serviceWorker|postMessage")
 
 
 class Parts(html.parser.HTMLParser):
-    """The tags of a page with their attributes, the text of each script and style, and the text of each term."""
+    """The tags of a page with their attributes, the text of each script and style, and the text of
+    each term."""
 
     def __init__(self, text):
         super().__init__()
@@ -49,14 +56,18 @@ def sha256(text):
 
 
 def policy_flaws(parts):
-    policies = [given["content"] for tag, given in parts.tags if tag == "meta" and given.get("http-equiv") == "Content-Security-Policy"]
-    scripts = [text for tag, given, text in parts.inside if tag == "script" and given.get("type") == "module"]
+    policies = [given["content"]
+                for tag, given in parts.tags
+                if tag == "meta" and given.get("http-equiv") == "Content-Security-Policy"]
+    scripts = [text for tag, given, text in parts.inside if tag == "script" and given.get(
+                   "type") == "module"]
     styles = [text for tag, _, text in parts.inside if tag == "style"]
     if len(scripts) != 1 or len(styles) != 1:
         yield f"it has {len(scripts)} scripts and {len(styles)} styles"
         return
-    wanted = {"default-src 'none'", f"script-src 'sha256-{sha256(scripts[0])}' 'wasm-unsafe-eval'", f"style-src 'sha256-{sha256(styles[0])}'",
-              "img-src data:", "base-uri 'none'", "form-action 'none'"}
+    wanted = {"default-src 'none'", f"script-src 'sha256-{sha256(scripts[0])}' 'wasm-unsafe-eval'",
+              f"style-src 'sha256-{sha256(styles[0])}'", "img-src data:", "base-uri 'none'",
+              "form-action 'none'"}
     if len(policies) != 1 or set(policies[0].split("; ")) != wanted:
         yield f"its policy is {policies}, and not {sorted(wanted)}"
     for pattern in (MAKERS, SPEAKERS):
@@ -65,12 +76,14 @@ def policy_flaws(parts):
 
 def tag_flaws(parts):
     ids = [given["id"] for _, given in parts.tags if "id" in given]
-    yield from (f"it has two elements {it}" for it in sorted({it for it in ids if ids.count(it) > 1}))
+    yield from (f"it has two elements {it}"
+                for it in sorted({it for it in ids if ids.count(it) > 1}))
     for tag, given in parts.tags:
         for name, value in given.items():
             if name in ("src", "srcset", "action", "style", "background") or name.startswith("on"):
                 yield f"its tag {tag} has the attribute {name}"
-            if name == "href" and value != "data:," and not (value.startswith("#") and value[1:] in ids):
+            if name == "href" and value != "data:," and not (
+                    value.startswith("#") and value[1:] in ids):
                 yield f"a link leads to {value}"
             if name in ("for", "aria-labelledby", "aria-describedby", "list") and value not in ids:
                 yield f"its tag {tag} names {value}, which is not there"
@@ -83,11 +96,13 @@ def content_flaws(parts, page, module):
     modules = [text for _, given, text in parts.inside if given.get("id") == "module"]
     if len(modules) != 1 or base64.b64decode(modules[0]) != module:
         yield "the module in it is another one"
-    for title in ("manual-warnings", "manual-damaged-files", *(f"manual-diagnostics-{number}" for number in range(1, 36))):
+    for title in ("manual-warnings", "manual-damaged-files",
+                  *(f"manual-diagnostics-{number}" for number in range(1, 36))):
         if ("id", title) not in {("id", given.get("id")) for _, given in parts.tags}:
             yield f"the manual in it has no part {title}"
     words = page.replace(base64.b64encode(module).decode(), "")
-    yield from (f"it names a file of this machine: {found}" for found in re.findall(r"/(?:root|home|tmp|work)/\S+", words))
+    yield from (f"it names a file of this machine: {found}"
+                for found in re.findall(r"/(?:root|home|tmp|work)/\S+", words))
 
 
 def made_elsewhere(module):
@@ -98,8 +113,11 @@ def made_elsewhere(module):
             to.parent.mkdir(parents=True, exist_ok=True)
             (shutil.copytree if (ROOT / name).is_dir() else shutil.copy)(ROOT / name, to)
         (tree / "module").write_bytes(module)
-        how = {**os.environ, "PYTHONHASHSEED": "7", "LC_ALL": "C", "TZ": "Asia/Tokyo", "PYTHONUTF8": "0"}
-        subprocess.run([sys.executable, "-B", "web/page/make_page.py", "module", "page"], cwd=tree, env=how, check=True)
+        how = {**os.environ, "PYTHONHASHSEED": "7", "LC_ALL": "C", "TZ": "Asia/Tokyo",
+               "PYTHONUTF8": "0"}
+        subprocess.run(
+            [sys.executable, "-B", "web/page/make_page.py", "module", "page"], cwd=tree, env=how,
+            check=True)
         return (tree / "page").read_bytes()
 
 

@@ -50,8 +50,8 @@ def take_both(desk):
 
 def today(desk):
     year, month, day = desk.value(
-        "(() => { const now = new Date(); return [now.getFullYear(), now.getMonth() + 1, now.getDate()]; })()"
-    )
+        "(() => { const now = new Date(); return [now.getFullYear(), now.getMonth() + 1, "
+        "now.getDate()]; })()")
     return {"year": year, "month": month, "day": day}
 
 

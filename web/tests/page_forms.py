@@ -1,5 +1,5 @@
-"""Files that are no code files as they are given, and the code file that comes of each: written after the descriptions of the forms, and
-of the tools that print dumps."""
+"""Files that are no code files as they are given, and the code file that comes of each: written
+after the descriptions of the forms, and of the tools that print dumps."""
 import base64
 import gzip
 import struct
@@ -43,7 +43,8 @@ def swapped(content):
 
 
 def lines_of(content, written, last, star=True):
-    """The lines of a dump, 16 bytes each: one like the line before is a star, or left out after it."""
+    """The lines of a dump, 16 bytes each: one like the line before is a star, or left out after
+    it."""
     lines, before, starred = [], None, False
     for at in range(0, len(content), 16):
         part = content[at : at + 16]
@@ -125,7 +126,8 @@ HEADER, TEXT = ("Use it without its header", "without its header"), (
     "Use it turned back",
     "turned back",
 )
-# the name, what makes the file, what the page says of it, its button, and what stands behind the name of what comes of it
+# the name, what makes the file, what the page says of it, its button, and what stands behind the
+# name of what comes of it
 FORMS = [
     ("library.bin", mac_binary, "is behind a header of MacBinary", *HEADER),
     ("library.as", apple_single, "is a file of AppleSingle", *HEADER),

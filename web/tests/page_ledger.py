@@ -1,5 +1,6 @@
-"""Files of a program with units of its own and of three libraries, for pictures of a link: by samples/make_samples.py, and always the
-same. One library has units that an earlier one has too, and one that nothing wants."""
+"""Files of a program with units of its own and of three libraries, for pictures of a link: by
+samples/make_samples.py, and always the same. One library has units that an earlier one has too, and
+one that nothing wants."""
 import pathlib
 import random
 import sys
@@ -34,7 +35,8 @@ TEXT = b"\r  procedure P(var N: integer);\r"
 
 
 def code_file(slots, texts=None):
-    """A code file with interface texts: `texts` has the blocks of text before the code of a slot."""
+    """A code file with interface texts: `texts` has the blocks of text before the code of a
+    slot."""
     word = lambda value: value.to_bytes(2, "little")
     parts, blocks = [[], [], [], []], b""
     for slot in range(16):

@@ -1,4 +1,5 @@
-"""The picture of a link on the page: what it shows, how it is used by mouse and keyboard, how it looks, and what is saved of it."""
+"""The picture of a link on the page: what it shows, how it is used by mouse and keyboard, how it
+looks, and what is saved of it."""
 import json
 import re
 import subprocess
@@ -11,13 +12,19 @@ LARGE = 4 << 20
 WIDE = 1000  # a window in which the picture has the width that the command gives it
 
 # areas of paths in a strip: each is of rectangles M x y h width v height
-AREAS = """[...document.querySelectorAll({selector!r})].map((it) => [...it.getAttribute('d').matchAll(/M([\\d.-]+) ([\\d.-]+)h([\\d.-]+)v([\\d.-]+)/g)]
+AREAS = """[...document.querySelectorAll({selector!r})].map((it) => [
+  ...it.getAttribute('d').matchAll(/M([\\d.-]+) ([\\d.-]+)h([\\d.-]+)v([\\d.-]+)/g)]
   .map((found) => found.slice(1).map(Number)))"""
-CHOICES = "[...document.querySelectorAll('#picture .choice')].map((it) => [it.getAttribute('aria-label'), it.getAttribute('aria-checked'), it.getAttribute('tabindex')])"
-OUTSIDE = """[...document.querySelectorAll('#picture svg')].flatMap((svg) => { const box = svg.getBoundingClientRect();
-  return [...svg.querySelectorAll('text')].filter((it) => it.getClientRects().length && it.textContent).filter((it) => {
+CHOICES = ("[...document.querySelectorAll('#picture .choice')].map((it) => "
+           "[it.getAttribute('aria-label'), it.getAttribute('aria-checked'), "
+           "it.getAttribute('tabindex')])")
+OUTSIDE = """[...document.querySelectorAll('#picture svg')].flatMap((svg) => {
+  const box = svg.getBoundingClientRect();
+  const texts = [...svg.querySelectorAll('text')];
+  return texts.filter((it) => it.getClientRects().length && it.textContent).filter((it) => {
     const {left, right, top, bottom} = it.getBoundingClientRect();
-    return left < box.left - 1 || right > box.right + 1 || top < box.top - 1 || bottom > box.bottom + 1; }).map((it) => it.textContent); })"""
+    return left < box.left - 1 || right > box.right + 1 || top < box.top - 1
+      || bottom > box.bottom + 1; }).map((it) => it.textContent); })"""
 WIDER = "document.documentElement.scrollWidth - document.documentElement.clientWidth"
 
 
@@ -39,7 +46,8 @@ def links(desk, folder, names):
 
 
 def of_samples(desk):
-    """One choice for each segment and for block 0, in the order of the map; the sums of the table; and each part to scale."""
+    """One choice for each segment and for block 0, in the order of the map; the sums of the table;
+    and each part to scale."""
     for names in (
         LINKS,
         ["host.code", "using.code", "used.code"],
@@ -63,13 +71,12 @@ def of_samples(desk):
             labels[0].startswith("Block 0, the segment dictionary, 512 bytes, "),
             labels,
         )
-        wanted = [
-            (
-                f"Slot {one['slot']}, {one['name'].rstrip()}",
-                f"from {names[one['file']]}, {one['length']} bytes, {count} place{'s' * (count != 1)} stored",
-            )
-            for one, count in zip(segments, stored)
-        ]
+        wanted = [(
+                      f"Slot {one['slot']}, {one['name'].rstrip()}",
+                      f"from {names[one['file']]}, {one['length']} bytes, {count} "
+                      f"place{'s' * (count != 1)} stored",
+                  )
+                  for one, count in zip(segments, stored)]
         desk.check(
             f"{what}: a choice for each segment, in the order of the map",
             len(labels) == len(wanted) + 1
@@ -80,8 +87,8 @@ def of_samples(desk):
             (labels, wanted),
         )
         table = desk.value(
-            "[...document.querySelectorAll('#picture-table tr')].slice(1).map((it) => [...it.cells].map((one) => one.textContent))"
-        )
+            "[...document.querySelectorAll('#picture-table tr')].slice(1).map((it) => "
+            "[...it.cells].map((one) => one.textContent))")
         desk.same(
             f"{what}: the table",
             [
@@ -103,8 +110,8 @@ def of_samples(desk):
 def to_scale(desk, what, segments, stored):
     """The area of each code is its length, and each mark is in the rows of its code."""
     row = desk.value(
-        "(() => { const it = document.querySelectorAll('#picture .strip .paper'); return Number(it[it.length - 1].getAttribute('width')); })()"
-    )
+        "(() => { const it = document.querySelectorAll('#picture .strip .paper'); return "
+        "Number(it[it.length - 1].getAttribute('width')); })()")
     codes, marks = (
         desk.value(AREAS.format(selector=f"#picture .segment .{kind}"))
         for kind in ("code", "marks")
@@ -170,7 +177,8 @@ def of_bytes(desk):
             if it["was"] != it["is"]
             else f"{pairs(it['is'])} is stored, as it was"
         )
-        start = f"{number + 1} of {len(at_util)}. Byte {it['at']} ({1024 + it['at']} of the linked file): {change}."
+        start = (f"{number + 1} of {len(at_util)}. Byte {it['at']} ({1024 + it['at']} of the "
+                 f"linked file): {change}.")
         end = (
             f"{values[it['record']['name'].rstrip()]}."
             if it["record"]
@@ -215,7 +223,8 @@ def of_dictionary(desk):
     desk.same(
         "block 0 is chosen", "Block 0, the segment dictionary", desk.text("#picture-segment h3")
     )
-    # UTIL gets an address and a length in slot 7, AUX a whole entry in slot 8, and the kinds become 0
+    # UTIL gets an address and a length in slot 7, AUX a whole entry in slot 8, and the kinds become
+    # 0
     wanted = [
         "address of slot 7",
         "length of slot 7",
@@ -229,14 +238,15 @@ def of_dictionary(desk):
         "each field that the link changes",
         wanted,
         desk.value(
-            "[...new Map([...document.querySelectorAll('pre.hex b')].map((it) => [it.dataset.place, it.title])).values()]"
-        ),
+            "[...new Map([...document.querySelectorAll('pre.hex b')].map((it) => "
+            "[it.dataset.place, it.title])).values()]"),
     )
     desk.value("document.querySelector('pre.hex').focus()")
     desk.key("Home")
     desk.same(
         "what is told of a field",
-        "1 of 7. Byte 28 (28 of the linked file): 00 00 becomes 02 00. It is the address of slot 7.",
+        "1 of 7. Byte 28 (28 of the linked file): 00 00 becomes 02 00. It is the address of slot "
+        "7.",
         desk.text("#picture-segment .place"),
     )
 
@@ -277,9 +287,10 @@ def of_refused(desk, folder):
         )
         desk.same(f"{what}: the words beside it", told, desk.text("#picture text.wrong"))
         x, y, width, unit = desk.value(
-            f"(() => {{ const it = document.querySelectorAll('#picture .strip .paper')[{5 + rows[0][0]}], of = (name) => Number(it.getAttribute(name)); "
-            f"return [of('x'), of('y'), of('width'), of('height') / {-(-(folder / names[rows[0][0]]).stat().st_size // 512)}]; }})()"
-        )
+            f"(() => {{ const it = document.querySelectorAll('#picture .strip "
+            f".paper')[{5 + rows[0][0]}], of = (name) => Number(it.getAttribute(name)); "
+            "return [of('x'), of('y'), of('width'), of('height') / "
+            f"{-(-(folder / names[rows[0][0]]).stat().st_size // 512)}]; }})()")
         frames = desk.value(AREAS.format(selector="#picture path.fault"))[0]
         left, top = min(it[0] for it in frames), min(it[1] for it in frames)
         first = min(start for _, start, _ in rows)
@@ -334,7 +345,8 @@ def of_large(desk, folder):
 
 
 def of_saved(desk, folder):
-    """The file that is saved is that of the command for node, stands by itself, and has names as text."""
+    """The file that is saved is that of the command for node, stands by itself, and has names as
+    text."""
     odd = "<b>&\"quotes'.code"
     (folder / odd).write_bytes((SAMPLES / "host.code").read_bytes())
     (folder / "library.code").write_bytes((SAMPLES / "library.code").read_bytes())
@@ -399,7 +411,9 @@ def by_itself(desk, path, what):
 
 # ---- How it looks
 
-LOOKS = (  # (the width, whether it is dark, the files, the segment that is chosen, and a picture with its height)
+LOOKS = (
+    # (the width, whether it is dark, the files, the segment that is chosen, and a picture with its
+    # height)
     (1000, False, "ledger", None, "picture.png", 1420),
     (1000, True, "ledger", 8, "picture-segment.png", 1420),
     (375, True, "ledger", 7, "picture-narrow.png", 1420),
@@ -411,7 +425,8 @@ LOOKS = (  # (the width, whether it is dark, the files, the segment that is chos
 
 
 def of_looks(desk, folder):
-    """No word is outside of its panel, and the page is not too wide, from a phone to a desk, in light and dark; and the pictures."""
+    """No word is outside of its panel, and the page is not too wide, from a phone to a desk, in
+    light and dark; and the pictures."""
     for name, content in page_ledger.ledger().items():
         (folder / name).write_bytes(content)
     (folder / "cut_base.code").write_bytes(page_ledger.ledger()["base.code"][:4700])
@@ -450,7 +465,8 @@ def drawing(desk, folder):
 
 
 def late_picture(desk, folder):
-    """While files are looked at there is no picture of the ones before, and one that comes late is not drawn."""
+    """While files are looked at there is no picture of the ones before, and one that comes late is
+    not drawn."""
     if not desk.browser.has_scripts:
         return
     before = desk.browser.before_each_page(HELD)
@@ -477,7 +493,8 @@ def late_picture(desk, folder):
         desk.text("#picture-told").startswith("The files are refused. "),
         desk.text("#picture-told"),
     )
-    # a file that is added is looked at by three calls; then come the link, the report, and the units; and then the documents of the picture
+    # a file that is added is looked at by three calls; then come the link, the report, and the
+    # units; and then the documents of the picture
     desk.value("(() => { window.letGo = null; hold(7); })()")
     desk.browser.give("#choose", [SAMPLES / "library.code"])
     desk.check("a document is waited for", desk.browser.until("Boolean(window.letGo)"))
@@ -485,8 +502,8 @@ def late_picture(desk, folder):
     desk.check(
         "the newer picture is there",
         desk.browser.until(
-            "document.getElementById('picture-told').textContent.startsWith('The files are refused. ')"
-        ),
+            "document.getElementById('picture-told').textContent.startsWith('The files are "
+            "refused. ')"),
     )
     desk.value("letGo()")
     desk.settle()

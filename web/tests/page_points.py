@@ -7,10 +7,13 @@ from page_files import BOXES, SAMPLES, at, disk, linked_as, many, today
 
 SCREENS = ((1280, 757), (375, 812))  # a window of 1280x900 has this much for a page
 
-RECTANGLE = "(() => {{ const it = document.querySelector({}).getBoundingClientRect(); return [it.left, it.top, it.right, it.bottom]; }})()"
+RECTANGLE = ("(() => {{ const it = document.querySelector({}).getBoundingClientRect(); return "
+             "[it.left, it.top, it.right, it.bottom]; }})()")
 COVERED = """[...document.querySelectorAll('.entries input')].filter((it) => {
-  const {left, top, width, height} = it.getBoundingClientRect(), [x, y] = [left + width / 2, top + height / 2];
-  return it === document.activeElement && y > 0 && y < innerHeight && document.elementFromPoint(x, y) !== it; }).length"""
+  const {left, top, width, height} = it.getBoundingClientRect();
+  const [x, y] = [left + width / 2, top + height / 2];
+  return it === document.activeElement && y > 0 && y < innerHeight
+    && document.elementFromPoint(x, y) !== it; }).length"""
 
 
 def volume_of(contents, name="DISK", blocks=280):
@@ -56,15 +59,16 @@ def tick(desk, number):
 
 
 def verdict(desk, folder):
-    """After each tick the verdict is in the window with what it says, and neither a box nor what is above it has moved."""
+    """After each tick the verdict is in the window with what it says, and neither a box nor what is
+    above it has moved."""
     (folder / "many.po").write_bytes(many(77).bytes())
     for size in screens(desk):
         for first in (1, 40, 76):
             desk.begin()
             desk.choose(folder / "many.po")
             desk.value(
-                f"document.querySelector({BOXES.format(first)!r}).scrollIntoView({{block: 'center'}})"
-            )
+                f"document.querySelector({BOXES.format(first)!r}).scrollIntoView({{block: "
+                f"'center'}})")
             what = f"{size[0]} wide, file {first}"
             desk.check(
                 f"{what}: the verdict says what to do",
@@ -161,19 +165,22 @@ def verdict_of_files(desk, folder):
     desk.choose(folder / "many.po")
     for k in range(3, 12):
         desk.value(
-            f"(() => {{ scrollTo(0, document.querySelector({BOXES.format(k)!r}).getBoundingClientRect().top + scrollY); }})()"
-        )
+            f"(() => {{ scrollTo(0, "
+            f"document.querySelector({BOXES.format(k)!r}).getBoundingClientRect().top + scrollY); "
+            f"}})()")
         desk.value(f"document.querySelector('.entries li:nth-child({k}) input').focus()")
         desk.same(f"the focus on file {k} is not covered", 0, desk.value(COVERED))
 
 
 # ---- A volume that helps to choose
 
-UNITS = "[...document.querySelectorAll('.entries li')].map((it) => [it.querySelector('.name').textContent, it.querySelector('.units').textContent])"
+UNITS = ("[...document.querySelectorAll('.entries li')].map((it) => "
+         "[it.querySelector('.name').textContent, it.querySelector('.units').textContent])")
 
 
 def choosing(desk, folder):
-    """What entries have and want, what has a unit that is missing, and each file of a volume by itself."""
+    """What entries have and want, what has a unit that is missing, and each file of a volume by
+    itself."""
     contents = {
         "HOST.CODE": "host.code",
         "USING.CODE": "using.code",
@@ -293,7 +300,8 @@ def of_rows(desk):
 
 
 def converted(desk, folder):
-    """What the page offers for a file that is no code file, and the program's answer for what comes of it."""
+    """What the page offers for a file that is no code file, and the program's answer for what comes
+    of it."""
     host, library = ((SAMPLES / name).read_bytes() for name in ("host.code", "library.code"))
     (folder / "host.code").write_bytes(host)
     for number, (name, make, told, words, named) in enumerate(page_forms.FORMS):
@@ -337,7 +345,8 @@ def converted(desk, folder):
 
 
 def as_host(desk, folder):
-    """A host that is packed is put first, and names are made of its own; an image that is packed is opened; and what is cut is left as it is."""
+    """A host that is packed is put first, and names are made of its own; an image that is packed is
+    opened; and what is cut is left as it is."""
     host = (SAMPLES / "host.code").read_bytes()
     (folder / "program.code.gz").write_bytes(gzip.compress(host))
     (folder / "disk.po.gz").write_bytes(gzip.compress(disk(folder).bytes()))
@@ -379,7 +388,8 @@ def other_images(desk, folder):
     (folder / "cpm.dsk").write_bytes(volumes.by_sectors(volumes.BY_CPM)(image))
     (folder / "disk.dsk").write_bytes(volumes.by_sectors(volumes.ON_DISK)(image))
     (folder / "nibbles.nib").write_bytes(bytes(range(200, 232)) * 7280)
-    said = "This image has its sectors in the order of CP/M, or as they lie on the disk. Make an image of it that has its blocks in order."
+    said = ("This image has its sectors in the order of CP/M, or as they lie on the disk. Make an "
+            "image of it that has its blocks in order.")
     for name in ("cpm.dsk", "disk.dsk"):
         desk.begin()
         desk.choose(folder / name)
@@ -393,7 +403,8 @@ def other_images(desk, folder):
     desk.choose(folder / "nibbles.nib")
     desk.same(
         "an image of nibbles",
-        "nibbles.nib: This may be a disk image of nibbles. Make an image of it that has its blocks in order.",
+        "nibbles.nib: This may be a disk image of nibbles. Make an image of it that has its blocks "
+        "in order.",
         desk.outcome()[1],
     )
 
@@ -447,7 +458,8 @@ def sample(desk, folder):
 
 
 def copies(desk, folder):
-    """A second program goes onto the copy that was made last, under a name that no file of it has; and what cannot be put is said before."""
+    """A second program goes onto the copy that was made last, under a name that no file of it has;
+    and what cannot be put is said before."""
     names = {
         "PAYROLL.CODE": "two_units.code",
         "PAYROLL2.CODE": "nine.code",
@@ -504,7 +516,8 @@ def copies(desk, folder):
 
 
 def go_back(desk, folder, volume):
-    """A person can go back to the image that was given; and a name that was written is for one host."""
+    """A person can go back to the image that was given; and a name that was written is for one
+    host."""
     desk.press(BOXES.format(4))
     desk.press(BOXES.format(2))
     desk.same(
@@ -541,7 +554,8 @@ STYLE = "getComputedStyle(document.querySelector({!r})).{}"
 
 
 def warned(desk, folder):
-    """That the unlinked host is lost looks like a warning; and so does a name that the p-System does not run."""
+    """That the unlinked host is lost looks like a warning; and so does a name that the p-System
+    does not run."""
     desk.begin()
     desk.press("#sample")
     desk.write("#put-name", "HOST.CODE")
@@ -625,7 +639,8 @@ def refusals(desk, folder):
 
 
 def returning(desk, folder):
-    """Back leads to what was seen before a link to the manual was followed, and forward to the manual again."""
+    """Back leads to what was seen before a link to the manual was followed, and forward to the
+    manual again."""
     link = "#outcome a[href='#manual-diagnostics-13']"
     top = "document.querySelector('#manual-diagnostics-13').getBoundingClientRect().top"
     is_shown = f"{top} > -1 && {top} < innerHeight / 2"
@@ -655,7 +670,8 @@ def returning(desk, folder):
 
 
 def closing(desk, folder):
-    """Flaws of a volume are three and a number; a volume that is closed takes its files along, and leaves the others."""
+    """Flaws of a volume are three and a number; a volume that is closed takes its files along, and
+    leaves the others."""
     wrong = bytearray(disk(folder).bytes())
     wrong[2 * 512 + 16] = 73  # 70 files more than there are
     (folder / "wrong.po").write_bytes(wrong)
@@ -701,8 +717,8 @@ def closing(desk, folder):
     desk.begin()
     desk.choose(folder / "byte.code", folder / "one.po")
     told = desk.value(
-        "[...document.querySelectorAll('#files .what, .entries .size, .entries .what')].map((it) => it.textContent)"
-    )
+        "[...document.querySelectorAll('#files .what, .entries .size, .entries .what')].map((it) "
+        "=> it.textContent)")
     desk.check(
         "one byte is 1 byte",
         not any("1 bytes" in it for it in told) and sum("1 byte" in it for it in told) > 1,
@@ -710,9 +726,11 @@ def closing(desk, folder):
     )
 
 
-SHOWN = """(() => { window.shown = []; const draw = () => { const it = document.querySelector('#outcome strong');
+SHOWN = """(() => { window.shown = []; const draw = () => {
+  const it = document.querySelector('#outcome strong');
   const {top, bottom} = it?.getBoundingClientRect() ?? {};
-  if (it && top >= 0 && bottom <= innerHeight && window.shown.at(-1) !== it.textContent) window.shown.push(it.textContent);
+  if (it && top >= 0 && bottom <= innerHeight && window.shown.at(-1) !== it.textContent)
+    window.shown.push(it.textContent);
   requestAnimationFrame(draw); }; draw(); })()"""
 
 

@@ -1,7 +1,8 @@
 /*
- * Serves the command line over node in one process, for scripts that run many commands: `node serve.mjs serve STDOUT STDERR` reads
- * commands, one a line and with tabs between the words, of which the first is the folder that it goes to; it writes what each prints to
- * these two files, and prints its status.
+ * Serves the command line over node in one process, for scripts that run many commands: `node
+ * serve.mjs serve STDOUT STDERR` reads commands, one a line and with tabs between the words, of
+ * which the first is the folder that it goes to; it writes what each prints to these two files, and
+ * prints its status.
  */
 
 import {closeSync, openSync} from "node:fs";
@@ -12,7 +13,8 @@ import {main} from "../command.mjs";
 const [outputPath, errorPath] = process.argv.slice(3).map((path) => resolve(path));
 
 for await (const line of createInterface({input: process.stdin})) {
-  const [folder, ...words] = line.split("\t"), output = openSync(outputPath, "w"), error = openSync(errorPath, "w");
+  const [folder, ...words] = line.split("\t"), output = openSync(outputPath, "w"),
+                 error = openSync(errorPath, "w");
   process.chdir(folder);
   const status = await main(words, {output, error});
   closeSync(output);

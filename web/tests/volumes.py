@@ -1,5 +1,6 @@
-"""Volumes of the p-System for the tests of volume.mjs, written apart from it: what a volume has, the bytes of an image of it, and
-what a put is to make of it. Blocks are marked one by one as free or not, where volume.mjs looks at gaps between entries."""
+"""Volumes of the p-System for the tests of volume.mjs, written apart from it: what a volume has,
+the bytes of an image of it, and what a put is to make of it. Blocks are marked one by one as free
+or not, where volume.mjs looks at gaps between entries."""
 import copy
 import dataclasses
 import itertools
@@ -8,7 +9,8 @@ import struct
 BLOCK = 512
 ENTRIES = 78
 KINDS = "untyped,bad blocks,code,text,info,data,graf,foto,securedir".split(",")
-# Where the drive finds the sectors of a track one after the other, by the number that each system gives them.
+# Where the drive finds the sectors of a track one after the other, by the number that each system
+# gives them.
 BY_BLOCKS = [0, 2, 4, 6, 8, 10, 12, 14, 1, 3, 5, 7, 9, 11, 13, 15]
 BY_DOS = [0, 7, 14, 6, 13, 5, 12, 4, 11, 3, 10, 2, 9, 1, 8, 15]
 BY_CPM = [0, 11, 6, 1, 12, 7, 2, 13, 8, 3, 14, 9, 4, 15, 10, 5]
@@ -35,7 +37,8 @@ class File:
         name = self.name.encode("latin-1")
         order = ">" if big else "<"
         filled = (name + self.filler[len(name):])[:15]
-        return struct.pack(f"{order}3HB15s2H", self.first, self.next, 16 * self.others + self.kind, len(name), filled, self.last, self.date)
+        return struct.pack(f"{order}3HB15s2H", self.first, self.next, 16 * self.others + self.kind,
+                           len(name), filled, self.last, self.date)
 
     def size(self):
         return BLOCK * (self.next - self.first) - BLOCK + self.last
@@ -69,8 +72,10 @@ class Volume:
     def directory(self):
         order = ">" if self.big else "<"
         name = self.name.encode("latin-1")
-        head = struct.pack(f"{order}3HB7s2H", 0, self.end, 0, len(name), name, self.blocks, len(self.files))
-        entries = head + self.filler[len(head):26] + b"".join(file.entry(self.big) for file in self.files)
+        head = struct.pack(f"{order}3HB7s2H", 0, self.end, 0, len(name), name, self.blocks,
+                           len(self.files))
+        entries = (head + self.filler[len(head):26]
+                   + b"".join(file.entry(self.big) for file in self.files))
         return entries + self.filler[len(entries):]
 
     def bytes(self):
@@ -78,7 +83,8 @@ class Volume:
         image = bytearray(self.image)
         image[2 * BLOCK:6 * BLOCK] = self.directory()
         if self.end == 10:
-            image[6 * BLOCK:10 * BLOCK] = self.directory() if self.duplicate is None else self.duplicate
+            image[6 * BLOCK:10 * BLOCK] = (
+                self.directory() if self.duplicate is None else self.duplicate)
         return bytes(image)
 
     def contents(self, file):
@@ -110,7 +116,8 @@ def runs(owners):
 def landing(volume, blocks, old):
     """The block from which on a file is put."""
     owners = volume.owners()
-    usable = itertools.takewhile(lambda owner: owner is None or owner is old, owners[old.first:]) if old else []
+    usable = (itertools.takewhile(lambda owner: owner is None or owner is old, owners[old.first:])
+              if old else [])
     in_place = len(list(usable))
     if old and in_place >= blocks:
         return old.first
@@ -120,27 +127,33 @@ def landing(volume, blocks, old):
         return min(fitting)[1]
     most, total = max((length for length, _ in free), default=0), sum(length for length, _ in free)
     others = f" In place of {old.name} there is room for {in_place}." if old else ""
-    raise Refused(f"The file has {many(blocks, 'block')}, and the volume {volume.name} has {most} free together, {total} in all.{others}")
+    raise Refused(f"The file has {many(blocks, 'block')}, and the volume {volume.name} has {most} "
+                  f"free together, {total} in all.{others}")
 
 
 def put(volume, name, data, date):
-    """The volume after a put, and where the file is; Refused if nothing is to be written. The name is one that a file can have."""
+    """The volume after a put, and where the file is; Refused if nothing is to be written. The name
+    is one that a file can have."""
     old = next((file for file in volume.files if file.name.upper() == name.upper()), None)
     if old is None and len(volume.files) == ENTRIES - 1:
-        raise Refused(f"The directory of {volume.name} is full: it has 77 files, and no room for another.")
+        raise Refused(f"The directory of {volume.name} is full: it has 77 files, and no room for "
+                      "another.")
     blocks = len(data) // BLOCK + (len(data) % BLOCK > 0)
     first = landing(volume, blocks, old)
     new = File(name.upper(), first, first + blocks, len(data) % BLOCK or BLOCK, 2, date_word(date))
     after = copy.copy(volume)
-    after.files = sorted([file for file in volume.files if file is not old] + [new], key=lambda file: file.first)
-    after.image = volume.image[:BLOCK * first] + data + bytes(BLOCK * blocks - len(data)) + volume.image[BLOCK * (first + blocks):]
+    after.files = sorted([file for file in volume.files if file is not old] + [new],
+                         key=lambda file: file.first)
+    after.image = (volume.image[:BLOCK * first] + data + bytes(BLOCK * blocks - len(data))
+                   + volume.image[BLOCK * (first + blocks):])
     after.duplicate = None
     # an entry that is no longer used stays as it was: there are never fewer
     return after, {"first": first, "blocks": blocks, "replaced": old is not None}
 
 
 def read(blocks, big):
-    """The name of a volume and its files, from the bytes of its blocks: for what was made, as another program would read it."""
+    """The name of a volume and its files, from the bytes of its blocks: for what was made, as
+    another program would read it."""
     order = ">" if big else "<"
     directory = blocks[2 * BLOCK:6 * BLOCK]
     entries = [directory[place:place + 26] for place in range(0, ENTRIES * 26, 26)]
@@ -155,7 +168,8 @@ def read(blocks, big):
 # Images
 
 def by_sectors(order):
-    """The bytes of blocks with the sectors of each track in another order: those of blocks lie on the disk as BY_BLOCKS says."""
+    """The bytes of blocks with the sectors of each track in another order: those of blocks lie on
+    the disk as BY_BLOCKS says."""
     def arranged(blocks):
         sectors = [blocks[place:place + 256] for place in range(0, len(blocks), 256)]
         image = [None] * len(sectors)
@@ -171,10 +185,12 @@ def in_order(blocks):
 
 
 def two_img(arranged, order, start=64, length=None, before=b"", behind=b"", blocks_field=0):
-    """2IMG: a header of little-endian words, the data from `start` on, and what may stand behind."""
+    """2IMG: a header of little-endian words, the data from `start` on, and what may stand
+    behind."""
     def wrapped(blocks):
         stated = len(blocks) if length is None else length
-        header = struct.pack("<4s4s2H6L", b"2IMG", b"TEST", 64, 1, order, 0x80000001, blocks_field, start, stated, 0)
+        header = struct.pack("<4s4s2H6L", b"2IMG", b"TEST", 64, 1, order, 0x80000001, blocks_field,
+                             start, stated, 0)
         return (header.ljust(64, b"\7") + before).ljust(start, b"\0") + arranged(blocks) + behind
     return wrapped
 
@@ -192,5 +208,6 @@ def disk_copy(title=b"disk", tags=b"", checksum=None):
     def wrapped(blocks):
         told = disk_copy_sum(blocks) if checksum is None else checksum
         sizes = struct.pack(">4L", len(blocks), len(tags), told, disk_copy_sum(tags[12:]))
-        return bytes([len(title)]) + title.ljust(63, b"\xee") + sizes + b"\1\x22\1\0" + blocks + tags
+        return (bytes([len(title)]) + title.ljust(63, b"\xee") + sizes + b"\1\x22\1\0" + blocks
+                + tags)
     return wrapped
