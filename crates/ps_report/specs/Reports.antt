@@ -32,13 +32,13 @@ HasWarning paths host libs = (thing : Stated) × (is_warning thing ≡ true)
 
 -- Of the segments of a host as they were read, those of which a report tells where there is a
 -- fault of reading: none of a host that is no code file.
-abbrev pub told_of : List ℕ → List Seen → List Seen
-told_of host list = if is_code_type host then list else []
+abbrev pub told_of_host : List ℕ → List Seen → List Seen
+told_of_host host list = if is_code_type host then list else []
 
 -- The segments of which a report tells: all, where the files were read without a fault.
 abbrev pub told_after : Option Fault → List ℕ → List Seen → List Seen
 told_after None host list = list
-told_after (Some f) host list = told_of host list
+told_after (Some f) host list = told_of_host host list
 
 abbrev pub told_segments : List ℕ → List (List ℕ) → List Seen
 told_segments host libs = told_after (reading_fault host libs) host (seen_segments host libs)
@@ -61,7 +61,7 @@ pub record AreSections (paths : List (List ℕ)) (host : List ℕ) (libs : List 
       → slot_lines s.segments ≡ segment_lines paths host libs
   pub read : (f : Fault) → reading_fault host libs ≡ Some f
       → slot_lines s.segments ≡ read_lines paths (has_unread host libs)
-      (told_of host (seen_segments host libs))
+      (told_of_host host (seen_segments host libs))
   -- all that is said of the segments: their lines, the later libraries that have their names too,
   -- the slots without a segment, and the libraries from which nothing is taken
   pub told : s.segments ≡ overview_text paths host libs (told_segments host libs)

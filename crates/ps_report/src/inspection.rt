@@ -12,7 +12,7 @@ ghost use Rattle.ps_explained.specs.OverviewText.{overview_text};
 ghost use Rattle.ps_explained.specs.SegmentLines.{has_unread, read_lines, segment_lines};
 ghost use Rattle.ps_explained.specs.SlotLines.{AddsSlotLines, slot_lines};
 ghost use Rattle.ps_words.specs.declared.fault.Fault.{Fault as Why};
-ghost use Rattle.ps_report.specs.Reports.{told_of, told_segments};
+ghost use Rattle.ps_report.specs.Reports.{told_of_host, told_segments};
 ghost use Rattle.ps_report.specs.Verdicts.{fault_of, verdict_name as verdict_name_spec};
 
 use crate::last_line::asks_for;
@@ -66,7 +66,7 @@ pub(crate) fn inspect<'a, A: Allocator + Copy>(
         → reading_fault files.now.host.now (contents files.now.libs.now) ≡ Some why
         → slot_lines (string_bytes found.overview.segments) ≡ read_lines (paths_in files.now)
         (has_unread files.now.host.now (contents files.now.libs.now))
-        (told_of files.now.host.now
+        (told_of_host files.now.host.now
         (seen_segments files.now.host.now (contents files.now.libs.now)))) }
     ensures told { IfOk result (λ found. string_bytes found.overview.segments ≡ overview_text
         (paths_in files.now) files.now.host.now (contents files.now.libs.now)
@@ -107,7 +107,7 @@ fn told_segments<'l, 'a>(
     list: &'l [ReadSegment<'a>],
 ) -> &'l [ReadSegment<'a>]
     ensures refused { (why : Why) → reading_fault reading.now.host reading.now.libs ≡ Some why
-        → map seen result.now ≡ told_of files.now.host.now (map seen list.now) }
+        → map seen result.now ≡ told_of_host files.now.host.now (map seen list.now) }
     ensures all { reading_fault reading.now.host reading.now.libs ≡ None
         → map seen result.now ≡ map seen list.now }
 {
@@ -124,7 +124,7 @@ fn told_after_fault<'l, 'a>(
     files: &NamedFiles<'a>,
     list: &'l [ReadSegment<'a>],
 ) -> &'l [ReadSegment<'a>]
-    ensures { map seen result.now ≡ told_of files.now.host.now (map seen list.now) }
+    ensures { map seen result.now ≡ told_of_host files.now.host.now (map seen list.now) }
 {
     if is_code_type(files.host) { list } else { &[] }
 }

@@ -31,7 +31,7 @@ use Rattle.ps_warnings.specs.Found.{Stated, found_at, found_in_record}
 use Rattle.ps_warnings.specs.Searches.LinkFindings.{is_near_unit, other_spelling, taken_by, taken_slot}
 use Rattle.ps_warnings.specs.Searches.RecordFindings.{end_mark, first_above, first_definition, first_past, first_public, is_missed, is_requested, low_mark}
 use Rattle.ps_warnings.specs.WarnedFiles.{AreInOrder, AscendFrom, FileSegment, IsAt, IsLinkedFrom, IsLookedAt, IsMet, IsNumber, IsSo, Share, entry_of}
-use Rattle.ps_warnings.specs.Warned.{IsOwn}
+use Rattle.ps_warnings.specs.Warned.{IsOwnDefinition}
 use Rattle.ps_warnings.specs.declared.finding.EntryFinding.TheVariants as entry
 use Rattle.ps_warnings.specs.declared.finding.Finding.{Finding}
 use Rattle.ps_warnings.specs.declared.finding.Finding.TheVariants as which
@@ -263,7 +263,7 @@ module _ (paths : List (List ℕ)) (host : List ℕ) (libs : List (List ℕ)) (l
     others k = record_has Right (10 * place + 5) (10 * place + 5) (10 * place + 6)
         (omega arith) (omega arith) path segment _ (λ i f h.
         let r = definition_found false g.records host_of i f h in
-        let never = λ (hs : List Record) (met : IsMet list g hs) (own : IsOwn hs g.records i r.0).
+        let never = λ (hs : List Record) (met : IsMet list g hs) (own : IsOwnDefinition hs g.records i r.0).
         both_ways (is_missed g.records host_of r.0) r.3
         (ap (λ (o : Option (List Record)). is_missed g.records o r.0) (met_is list g hs met)
         ∙ own_missed hs g.records i r.0 own) in

@@ -24,7 +24,7 @@ use Rattle.ps_warnings.specs.SegmentSizes.{data_size}
 use Rattle.ps_warnings.specs.Found.{Stated, found_at, found_in_record, is_about_link}
 use Rattle.ps_warnings.specs.Searches.LinkFindings.{is_near_unit, other_spelling, taken_by}
 use Rattle.ps_warnings.specs.Searches.RecordFindings.{end_mark, first_above, first_definition, first_past, first_public, is_missed, low_mark}
-use Rattle.ps_warnings.specs.Warned.{IsEndMark, IsFoundUpTo, IsHigh, IsOwn, IsPast, IsPastMark, IsRespelled, IsVariable, names_segment}
+use Rattle.ps_warnings.specs.Warned.{IsEndMark, IsFoundUpTo, IsHigh, IsOwnDefinition, IsPast, IsPastMark, IsRespelled, IsVariable, names_segment}
 use Rattle.ps_warnings.specs.WarnedFiles.{AreSaid, FileSegment, IsAt, IsLinkedFrom, IsLookedAt, IsMet, IsSaidBy, IsSo, IsUpTo, Says, Share, entry_of}
 use Rattle.ps_warnings.specs.declared.finding.EntryFinding.TheVariants as entry
 use Rattle.ps_warnings.specs.declared.finding.Finding.{Finding}
@@ -179,7 +179,7 @@ module _ (paths : List (List ℕ)) (host : List ℕ) (libs : List (List ℕ)) (l
     each_own : (name : List ℕ) (i : ℕ) (hs : List Record)
         → thing.finding ≡ which.Record (finding.OwnDefinition name)
         → IsAt thing path segment (Some i) → (entry_of g).kind ≡ 3 → IsMet list g hs
-        → IsOwn hs g.records i name → Said
+        → IsOwnDefinition hs g.records i name → Said
     each_own name i hs e at k m h = let up = own_each hs g.records i name h in
         let r = own_found hs g.records up.0 up.1 up.2 in
         by_record _ _ i e at (λ s t. in_unit_of s k (in_left (defined true) (defined false) s
@@ -189,7 +189,7 @@ module _ (paths : List (List ℕ)) (host : List ℕ) (libs : List (List ℕ)) (l
         → thing.finding ≡ which.Record (finding.UnitDefinition name)
         → IsAt thing path segment (Some i) → (entry_of g).kind ≡ 3
         → IsVariable g.records i name
-        → ((hs : List Record) → IsMet list g hs → IsOwn hs g.records i name → ⊥) → Said
+        → ((hs : List Record) → IsMet list g hs → IsOwnDefinition hs g.records i name → ⊥) → Said
     each_other name i e at k v never = let up = definition_each false g.records host_of i name v
         (false_from_ne_true (is_missed g.records host_of name) (λ b.
         let z = missed_met g.records host_of name b in

@@ -16,8 +16,8 @@ use Rattle.ps_linkinfo.specs.declared.record.LinkRecord.{LinkRecord as Record}
 use Rattle.ps_linkinfo.specs.declared.sort.Sort.{Sort}
 use Rattle.ps_linkinfo.specs.declared.sort.Sort.TheVariants as sort
 use Rattle.ps_resolve.specs.Searches.{first_of}
-use Rattle.ps_warnings.specs.Searches.RecordFindings.{definition_as, end_mark, first_definition, first_past_mark, first_public, is_missed, is_past_mark, is_requested, missed_or_not, past_mark, public_as, value_in, value_of}
-use Rattle.ps_warnings.specs.Warned.{Defines, IsDefinition, IsFoundUpTo, IsOwn, IsPastMark, IsPublic, IsVariable, Refers}
+use Rattle.ps_warnings.specs.Searches.RecordFindings.{definition_as, end_mark, first_definition, first_past_mark, first_public, is_missed, is_past_mark, is_requested, missed_or_not, past_mark, public_as, public_value_in, public_value_of}
+use Rattle.ps_warnings.specs.Warned.{HasDefinition, IsDefinition, IsFoundUpTo, IsOwnDefinition, IsPastMark, HasPublicValue, IsVariable, Refers}
 use Rattle.ps_warnings.specs.declared.finding.Finding.{Finding}
 use Rattle.ps_warnings.specs.declared.finding.Finding.TheVariants as which
 use Rattle.ps_warnings.specs.declared.finding.RecordFinding.TheVariants as finding
@@ -84,11 +84,11 @@ one_is : (r : Record) (name : List ℕ) → IsDefinition r name
 one_is r name (named, (value, body)) = parts_named name sort.Definition r named
     (body_definition r.body value body)
 
-defines : (rs : List Record) (name : List ℕ) → Defines rs name
+defines : (rs : List Record) (name : List ℕ) → HasDefinition rs name
     → is_some (first_named name sort.Definition (numbered_records 0 rs)) ≡ true
 defines rs name (j, r, at, is) = named_each name sort.Definition 0 rs j r at (one_is r name is)
 
-undefined : (rs : List Record) (name : List ℕ) → (Defines rs name → ⊥)
+undefined : (rs : List Record) (name : List ℕ) → (HasDefinition rs name → ⊥)
     → is_some (first_named name sort.Definition (numbered_records 0 rs)) ≡ false
 undefined rs name never = false_from_ne_true
     (is_some (first_named name sort.Definition (numbered_records 0 rs)))
@@ -106,16 +106,16 @@ requested rs name (j, r, refs, at, named, body) = named_each name sort.Request 0
     (parts_named name sort.Request r named (rw body))
 
 -- 3. the base offset of a public variable
-value_body : (b : Body) (value : ℕ) → value_in b ≡ Some value → b ≡ PublDef value
+value_body : (b : Body) (value : ℕ) → public_value_in b ≡ Some value → b ≡ PublDef value
 value_body (PublDef v) value h = cc
 value_body other value h = none value _ h
 
 abbrev value_from : List ℕ → ℕ → List Record → Option ℕ
-value_from name k rs = option_and_then (λ (q : ℕ × Record). value_in q.1.body)
+value_from name k rs = option_and_then (λ (q : ℕ × Record). public_value_in q.1.body)
     (first_named name sort.Definition (numbered_records k rs))
 
 value_found : (name : List ℕ) (k : ℕ) (rs : List Record) (value : ℕ)
-    → value_from name k rs ≡ Some value → IsPublic rs name value
+    → value_from name k rs ≡ Some value → HasPublicValue rs name value
 value_found name k [] value h = none value _ h
 value_found name k (r ∷ rs) value h = elim (cases_Bool (is_named name sort.Definition r)) [
   | inl e ↦ inl ((is_one r name e).0, value_body r.body value (rw e at h))
@@ -125,7 +125,7 @@ value_found name k (r ∷ rs) value h = elim (cases_Bool (is_named name sort.Def
   )
 ]
 
-value_each : (name : List ℕ) (k : ℕ) (rs : List Record) (value : ℕ) → IsPublic rs name value
+value_each : (name : List ℕ) (k : ℕ) (rs : List Record) (value : ℕ) → HasPublicValue rs name value
     → value_from name k rs ≡ Some value
 value_each name k [] value h = absurd h
 value_each name k (r ∷ rs) value (inl (named, body)) =
@@ -150,7 +150,7 @@ facts_mark next value displacement below far apart = grind (arith, nat_tests)
 public_body : (code : List ℕ) (host : List Record) (name : List ℕ) (b : Body) (f : Finding)
     → public_as code host name b ≡ Some f
     → (refs : List ℕ) × (b ≡ PublRef refs)
-    × (first_past_mark code name (end_mark host) (value_of host name) refs ≡ Some f)
+    × (first_past_mark code name (end_mark host) (public_value_of host name) refs ≡ Some f)
 public_body code host name (PublRef refs) f h = (refs, refl, h)
 public_body code host name other f h = none f _ h
 
@@ -168,7 +168,7 @@ mark_found code host rs i f h =
     let z = record_found (λ (r : Record). public_as code host r.name r.body) rs i f h in
     let name = z.0.name in
     let b = public_body code host name z.0.body f z.2 in
-    let n = known code name b.0 f (end_mark host) (value_of host name) b.2 in
+    let n = known code name b.0 f (end_mark host) (public_value_of host name) b.2 in
     let p = found_in (past_mark code name n.0 n.1) b.0 f n.4 in
     let d = displacement_at code p.1 in
     let t = cond_some (nat_lt (p.1 + 1) (length code) && is_past_mark n.0 n.1 d)
@@ -245,12 +245,12 @@ module _ (b : Bool) (rs : List Record) (host : Option (List Record)) where
 
 -- 6. a definition is missed exactly where the page says so
 module _ (host rs : List Record) (i : ℕ) (name : List ℕ) where
-  pub own_missed : IsOwn host rs i name → is_missed rs (Some host) name ≡ true
+  pub own_missed : IsOwnDefinition host rs i name → is_missed rs (Some host) name ≡ true
   own_missed (r, value, next, at, named, body, refers, m, never) = rw
       (requested rs name refers, end_mark_there host next m, undefined host name never)
 
   pub missed_own : IsVariable rs i name → is_missed rs (Some host) name ≡ true
-      → IsOwn host rs i name
+      → IsOwnDefinition host rs i name
   missed_own v h = elim (cases (end_mark host)) [
     | inl e ↦ (let both = and_parts (is_requested rs name) false (rw e at h) in absurd (cc))
     | inr (next, e) ↦ (let some = is_some (first_named name sort.Definition (numbered_records 0 host)) in
@@ -267,12 +267,12 @@ module _ (host rs : List Record) (i : ℕ) (name : List ℕ) where
         ))
   ]
 
-  pub own_each : IsOwn host rs i name
+  pub own_each : IsOwnDefinition host rs i name
       → IsFoundUpTo (first_definition true rs (Some host) (numbered_records 0 rs)) i
   own_each h = definition_each true rs (Some host) i name (h.0, h.1, h.3, h.4, h.5) (own_missed h)
 
 pub own_found : (host rs : List Record) (i : ℕ) (f : Finding)
     → first_definition true rs (Some host) (numbered_records 0 rs) ≡ Some (i, f)
-    → (name : List ℕ) × (f ≡ which.Record (finding.OwnDefinition name)) × IsOwn host rs i name
+    → (name : List ℕ) × (f ≡ which.Record (finding.OwnDefinition name)) × IsOwnDefinition host rs i name
 own_found host rs i f h = let t = definition_found true rs (Some host) i f h in
     (t.0, t.1, missed_own host rs i t.0 t.2 t.3)

@@ -41,8 +41,8 @@ IsDefinition r name = (r.name ≡ name)
     × ((value : ℕ) × ((r.body ≡ PublDef value) ⊎ (r.body ≡ ConstDef value)))
 
 -- some record defines the name
-abbrev pub Defines : List Record → List ℕ → Type 0
-Defines rs name = (j : ℕ) × (r : Record) × (slice_get rs j ≡ Some r) × IsDefinition r name
+abbrev pub HasDefinition : List Record → List ℕ → Type 0
+HasDefinition rs name = (j : ℕ) × (r : Record) × (slice_get rs j ≡ Some r) × IsDefinition r name
 
 -- some record refers to the name
 abbrev pub Refers : List Record → List ℕ → Type 0
@@ -50,10 +50,10 @@ Refers rs name = (j : ℕ) × (r : Record) × (refs : List ℕ) × (slice_get rs
     × (r.name ≡ name) × (r.body ≡ PublRef refs)
 
 -- the first record that defines the name is a PUBLDEF with this value
-abbrev pub IsPublic : List Record → List ℕ → ℕ → Type 0
-IsPublic [] name value = ⊥
-IsPublic (r ∷ rs) name value = ((r.name ≡ name) × (r.body ≡ PublDef value))
-    ⊎ ((IsDefinition r name → ⊥) × IsPublic rs name value)
+abbrev pub HasPublicValue : List Record → List ℕ → ℕ → Type 0
+HasPublicValue [] name value = ⊥
+HasPublicValue (r ∷ rs) name value = ((r.name ≡ name) × (r.body ≡ PublDef value))
+    ⊎ ((IsDefinition r name → ⊥) × HasPublicValue rs name value)
 
 -- reference k of record i is an operand that leads to the end mark of the host or past it, from a
 -- public variable that begins below it or at it; word 0 of a variable at the end mark is none
@@ -61,7 +61,7 @@ abbrev pub IsPastMark : List ℕ → List Record → List Record → ℕ → ℕ
 IsPastMark code host rs i place name displacement value next = (r : Record) × (refs : List ℕ)
     × (k : ℕ) × (slice_get rs i ≡ Some r) × (r.name ≡ name) × (r.body ≡ PublRef refs)
     × (slice_get refs k ≡ Some place) × (place + 1 < length code)
-    × (displacement_at code place ≡ displacement) × IsEndMark host next × IsPublic host name value
+    × (displacement_at code place ≡ displacement) × IsEndMark host next × HasPublicValue host name value
     × (value ≤ next) × (next ≤ value + displacement)
     × ((value ≡ next) → (displacement ≢ 0))
 
@@ -72,10 +72,10 @@ IsVariable rs i name = (r : Record) × (value : ℕ) × (slice_get rs i ≡ Some
 
 -- record i is a PUBLDEF of the name in a unit that refers to it, of which the host, whose end mark is
 -- read, has no definition
-abbrev pub IsOwn : List Record → List Record → ℕ → List ℕ → Type 0
-IsOwn host rs i name = (r : Record) × (value : ℕ) × (next : ℕ) × (slice_get rs i ≡ Some r)
+abbrev pub IsOwnDefinition : List Record → List Record → ℕ → List ℕ → Type 0
+IsOwnDefinition host rs i name = (r : Record) × (value : ℕ) × (next : ℕ) × (slice_get rs i ≡ Some r)
     × (r.name ≡ name) × (r.body ≡ PublDef value) × Refers rs name × IsEndMark host next
-    × (Defines host name → ⊥)
+    × (HasDefinition host name → ⊥)
 
 -- the two have a byte of the file in common
 abbrev pub ShareByte : Extent → Extent → Type 0

@@ -15,7 +15,7 @@ use Rattle.ps_check_segments.specs.Seen.{Seen, host_records}
 use Rattle.ps_check_segments.specs.SegmentParts.{is_added, is_unit}
 use Rattle.ps_warnings.specs.SegmentSizes.{data_size, information_end}
 use Rattle.ps_warnings.specs.Found.{Stated}
-use Rattle.ps_warnings.specs.Warned.{IsEndMark, IsHigh, IsOwn, IsPast, IsPastMark, IsRespelled, IsVariable, names_segment}
+use Rattle.ps_warnings.specs.Warned.{IsEndMark, IsHigh, IsOwnDefinition, IsPast, IsPastMark, IsRespelled, IsVariable, names_segment}
 use Rattle.ps_warnings.specs.declared.finding.EntryFinding.TheVariants as entry
 use Rattle.ps_warnings.specs.declared.finding.Finding.{Finding}
 use Rattle.ps_warnings.specs.declared.finding.Finding.TheVariants as which
@@ -127,10 +127,10 @@ module _ (paths : List (List ℕ)) (host : List ℕ) (libs : List (List ℕ)) (l
       (λ g i. (hs : List Record) × IsMet list g hs
       × IsPastMark g.code hs g.records i place name displacement value next)
   IsSo s (which.Record (finding.OwnDefinition name)) = InRecord s (λ g i.
-      ((entry_of g).kind ≡ 3) × ((hs : List Record) × IsMet list g hs × IsOwn hs g.records i name))
+      ((entry_of g).kind ≡ 3) × ((hs : List Record) × IsMet list g hs × IsOwnDefinition hs g.records i name))
   IsSo s (which.Record (finding.UnitDefinition name)) = InRecord s (λ g i.
       ((entry_of g).kind ≡ 3) × IsVariable g.records i name
-      × ((hs : List Record) → IsMet list g hs → IsOwn hs g.records i name → ⊥))
+      × ((hs : List Record) → IsMet list g hs → IsOwnDefinition hs g.records i name → ⊥))
   IsSo s (which.Entry (entry.Overlap other)) = InSlot s
       (λ f slot. Some (entry_at f.order f.file slot).name)
       (λ number f slot. (other < slot) × Share f slot other)

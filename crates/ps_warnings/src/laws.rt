@@ -22,7 +22,7 @@ ghost use Rattle.ps_warnings.specs.Searches.RecordFindings.{end_mark, first_abov
 ghost use Rattle.ps_warnings.specs.SmallEntries.{blank, empty_entry, other_util, segment_of, small_util, util, zero_util};
 ghost use Rattle.ps_warnings.specs.SmallFiles.{demo, low_host, pair_until, small_host, small_library};
 ghost use Rattle.ps_warnings.specs.SmallRecords.{count, cut_after, defining, defining_none, having, no_records, owning, referring, with_operand};
-ghost use Rattle.ps_warnings.specs.Warned.{IsEndMark, IsFoundUpTo, IsHigh, IsOwn, IsPast, IsPastMark, IsRespelled, ShareByte, names_segment};
+ghost use Rattle.ps_warnings.specs.Warned.{IsEndMark, IsFoundUpTo, IsHigh, IsOwnDefinition, IsPast, IsPastMark, IsRespelled, ShareByte, names_segment};
 ghost use Rattle.ps_warnings.specs.WarnedFiles.{AreSaid, IsSo};
 ghost use Rattle.ps_warnings.specs.declared.finding.EntryFinding.TheVariants as entry;
 ghost use Rattle.ps_warnings.specs.declared.finding.Finding.{Finding as FindingOf};
@@ -88,8 +88,8 @@ pub fn own_definitions_are_told()
     ensures found { (host rs : List Record) (i : ℕ) (f : FindingOf)
         → first_definition true rs (Some host) (numbered_records 0 rs) ≡ Some (i, f)
         → (name : List ℕ) × (f ≡ which.Record (finding.OwnDefinition name))
-        × IsOwn host rs i name }
-    ensures each { (host rs : List Record) (i : ℕ) (name : List ℕ) → IsOwn host rs i name
+        × IsOwnDefinition host rs i name }
+    ensures each { (host rs : List Record) (i : ℕ) (name : List ℕ) → IsOwnDefinition host rs i name
         → IsFoundUpTo (first_definition true rs (Some host) (numbered_records 0 rs)) i }
 {}
 

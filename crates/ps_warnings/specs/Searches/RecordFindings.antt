@@ -93,16 +93,16 @@ first_past code rs = first_of (past_in code) rs
 
 -- the base offset of a public variable of this name: that of the first definition, if it is of a
 -- variable
-abbrev pub value_in : Body → Option ℕ
-value_in (PublDef value) = Some value
-value_in (UnitRef refs) = None
-value_in (PublRef refs) = None
-value_in (PrivRef words refs) = None
-value_in (ConstDef value) = None
-value_in (Eof at) = None
+abbrev pub public_value_in : Body → Option ℕ
+public_value_in (PublDef value) = Some value
+public_value_in (UnitRef refs) = None
+public_value_in (PublRef refs) = None
+public_value_in (PrivRef words refs) = None
+public_value_in (ConstDef value) = None
+public_value_in (Eof at) = None
 
-abbrev pub value_of : List Record → List ℕ → Option ℕ
-value_of host name = option_and_then (λ r. value_in r.1.body)
+abbrev pub public_value_of : List Record → List ℕ → Option ℕ
+public_value_of host name = option_and_then (λ r. public_value_in r.1.body)
     (first_named name sort.Definition (numbered_records 0 host))
 
 -- a displacement leads to the end mark or past it, from a public variable that begins below it or at
@@ -129,7 +129,7 @@ first_past_mark code name (Some next) (Some value) refs =
 -- it
 abbrev pub public_as : List ℕ → List Record → List ℕ → Body → Option Finding
 public_as code host name (PublRef refs) =
-    first_past_mark code name (end_mark host) (value_of host name) refs
+    first_past_mark code name (end_mark host) (public_value_of host name) refs
 public_as code host name (UnitRef refs) = None
 public_as code host name (PrivRef words refs) = None
 public_as code host name (PublDef value) = None
@@ -178,11 +178,11 @@ definition_as missed rs host name (PrivRef words refs) = None
 definition_as missed rs host name (ConstDef value) = None
 definition_as missed rs host name (Eof at) = None
 
-abbrev pub definition_in : Bool → List Record → Option (List Record) → ℕ × Record
+abbrev pub numbered_definition : Bool → List Record → Option (List Record) → ℕ × Record
     → Option (ℕ × Finding)
-definition_in missed rs host r = at_index r.0 (definition_as missed rs host r.1.name r.1.body)
+numbered_definition missed rs host r = at_index r.0 (definition_as missed rs host r.1.name r.1.body)
 
 -- the first definition of a unit that is missed, or the first other one
 abbrev pub first_definition : Bool → List Record → Option (List Record) → List (ℕ × Record)
     → Option (ℕ × Finding)
-first_definition missed rs host numbered = first_of (definition_in missed rs host) numbered
+first_definition missed rs host numbered = first_of (numbered_definition missed rs host) numbered

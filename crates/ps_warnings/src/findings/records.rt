@@ -8,7 +8,7 @@ ghost use Rattle.ps_resolve.specs.Searches.{first_of};
 ghost use Rattle.ps_warnings.specs.Searches.FileFindings.{definition_findings, findings_of_records};
 ghost use Rattle.ps_warnings.specs.SegmentSizes.{data_size as data_size_spec};
 ghost use Rattle.ps_warnings.specs.Found.{Adds, about_link};
-ghost use Rattle.ps_warnings.specs.Searches.RecordFindings.{definition_as as definition_as_spec, end_mark as end_mark_spec, first_above as first_above_spec, first_definition as first_definition_spec, first_high as first_high_spec, first_past, first_past_mark as first_past_mark_spec, first_public as first_public_spec, high_as as high_as_spec, is_defined as is_defined_spec, is_missed as is_missed_spec, is_past as is_past_spec, is_past_mark as is_past_mark_spec, low_mark as low_mark_spec, missed_or_not as missed_or_not_spec, past_as as past_as_spec, past_mark as past_mark_spec, past_words as past_words_spec, public_as as public_as_spec, public_in, value_of as value_of_spec};
+ghost use Rattle.ps_warnings.specs.Searches.RecordFindings.{definition_as as definition_as_spec, end_mark as end_mark_spec, first_above as first_above_spec, first_definition as first_definition_spec, first_high as first_high_spec, first_past, first_past_mark as first_past_mark_spec, first_public as first_public_spec, high_as as high_as_spec, is_defined as is_defined_spec, is_missed as is_missed_spec, is_past as is_past_spec, is_past_mark as is_past_mark_spec, low_mark as low_mark_spec, missed_or_not as missed_or_not_spec, past_as as past_as_spec, past_mark as past_mark_spec, past_words as past_words_spec, public_as as public_as_spec, public_in, public_value_of as public_value_of_spec};
 
 use super::operands::{first_clear_mark, no_references, zero_mark};
 use super::{Context, Findings, in_segment};
@@ -198,8 +198,8 @@ fn first_past_private(records: &LinkInformation<'_>, code: &[u8]) -> Option<(usi
 
 /// The base offset of a public variable of this name: that of the first definition, if it is of a
 /// variable.
-fn value_of(host: &LinkInformation<'_>, name: &Name) -> Option<u16>
-    ensures { result ≡ value_of_spec host.now name.now }
+fn public_value_of(host: &LinkInformation<'_>, name: &Name) -> Option<u16>
+    ensures { result ≡ public_value_of_spec host.now name.now }
 {
     match host.find(name, Sort::Definition) {
         Some((_, record)) => match record.body {
@@ -283,7 +283,7 @@ fn public_as(code: &[u8], host: &LinkInformation<'_>, entry: &LinkRecord<'_>) ->
 {
     match &entry.body {
         Body::PublRef(refs) => {
-            let value = value_of(host, &entry.name);
+            let value = public_value_of(host, &entry.name);
             first_past_mark(code, entry.name, end_mark(host), value, refs)
         }
         Body::UnitRef(_)

@@ -10,12 +10,12 @@ use Rattle.ps_resolve.specs.Sources.{contents}
 use Rattle.ps_explained.specs.OverviewText.{overview_text}
 use Rattle.ps_explained.specs.SegmentLines.{has_unread, read_lines}
 use Rattle.ps_explained.proofs.ReadLines.{read_lines_are}
-use Rattle.ps_report.specs.Reports.{told_after, told_of}
+use Rattle.ps_report.specs.Reports.{told_after, told_of_host}
 use Rattle.ps_report.proofs.inspection.inspect.Goals as goal
 
 -- the segments of which a report tells
 told_is : (told list : List Seen) (host : List ℕ) (fault : Option Fault)
-    → ((why : Fault) → fault ≡ Some why → told ≡ told_of host list)
+    → ((why : Fault) → fault ≡ Some why → told ≡ told_of_host host list)
     → (fault ≡ None → told ≡ list) → told ≡ told_after fault host list
 told_is told list host None refused all = all refl
 told_is told list host (Some why) refused all = refused why refl
@@ -33,7 +33,7 @@ returns g c =
     let all = λ (none : reading_fault host libs ≡ None).
     c.told_segments-told.ensures.all (read ∙ none) ∙ seen_are in
     let refused = λ (why : Fault) (is : reading_fault host libs ≡ Some why).
-    c.told_segments-told.ensures.refused why (read ∙ is) ∙ ap (told_of host) seen_are in
+    c.told_segments-told.ensures.refused why (read ∙ is) ∙ ap (told_of_host host) seen_are in
     let lines = λ (l : List Seen). read_lines paths (has_unread host libs) l in
     record {
       files = search rules;
