@@ -1,5 +1,5 @@
 -- The paths of files, by their numbers.
-use Rattle.std.proofs.Common.{◌≡◌, ◌∙◌, ◌∷◌, ◌-◌, ◌<◌, ◌≤◌, [], zero, suc, ℕ, List, Bor, Some, length, refl, sym, ap, arith}
+use Rattle.std.proofs.Common.{◌≡◌, ◌∷◌, ◌-◌, ◌<◌, ◌≤◌, [], zero, suc, ℕ, List, Bor, Some, length, refl, sym, ap, arith}
 use Rattle.std.specs.Prelude.{Option, unwrap_or}
 use Rattle.std.specs.List.{slice_get}
 use Rattle.std.specs.Option.{option_map}

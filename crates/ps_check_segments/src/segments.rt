@@ -14,7 +14,7 @@ ghost use Rattle.ps_check_segments.specs.SeenSegments.{is_fault, is_for_unit as 
 
 use crate::named_files::NamedFiles;
 use ps_codefile::dictionary_layout::SLOTS;
-use ps_codefile::{Dict, Entry, Role};
+use ps_codefile::{Dict, Role};
 use ps_filetype::ShownName;
 use ps_linkinfo::LinkInformation;
 use ps_resolve::{

@@ -11,8 +11,8 @@ use crate::release::later_release;
 use ps_codefile::code_layout::NUMBERS;
 use ps_codefile::dictionary_layout::SLOTS;
 use ps_codefile::kinds::{HOSTSEG, LAST_INTRINSIC, LINKED, UNITSEG};
-use ps_codefile::{Dict, Entry, ProcedureDictionary, Role, is_nameless, open};
-use ps_words::{Name, Order, Reason, WORD_LEN, get};
+use ps_codefile::{Dict, ProcedureDictionary, Role, is_nameless, open};
+use ps_words::{Name, Order, WORD_LEN, get};
 
 /// What a code file is for, by the kinds of its segments.
 #[derive(Clone, Copy)]

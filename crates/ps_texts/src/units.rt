@@ -8,7 +8,7 @@ ghost use Rattle.ps_texts.specs.UnitNames.{had_name as had_name_spec, has_name a
 use ps_codefile::dictionary_layout::SLOTS;
 use ps_codefile::{Dict, Role};
 use ps_resolve::{HostReading, UnitReference};
-use ps_words::{Name, Reason};
+use ps_words::Name;
 use std::alloc::{AllocError, Allocator};
 
 /// The list has the name.
