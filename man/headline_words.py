@@ -22,12 +22,9 @@ PHRASES = [
     ("and no link information is left", ["padding"]),
 ]
 
-# Definitions that say by facts when something is so, and those that compute it. The first are to be read.
-TWINS = [
-    ("IsNamed", "is_named"), ("HasEntry", "has_entry"), ("EntriesHave", "entries_reason"), ("EntryFault", "entry_fault"),
-    ("AreBad", "is_placed"), ("TablesHave", "tables_fault"), ("Stops", "information_fault"), ("CodeFault", "code_fault"),
-    ("IsMissing", "is_missing"), ("PlacedFault", "placed_fault"), ("InRound", "unplaced_fault"),
-]  # fmt: skip
+# Definitions that say by facts when something is so, and those that compute it. The first are to be
+# read.
+TWINS = [("IsNamed", "is_named"), ("HasEntry", "has_entry"), ("Stops", "reading")]
 
 # Signs of the language, which no file brings in.
 SIGNS = {

@@ -265,9 +265,11 @@ def twins(definitions):
     known = {it.name for it in definitions}
     if missing := {name for pair in TWINS for name in pair} - known:
         raise ValueError(f"nothing on the page is called {missing}")
-    yield "Which segments are added depends on the rounds before, and a round ends with a fault. So some faults stand here twice: by facts, and computed for the segments. "
-    yield "Read the facts: `first` speaks of them alone. What is computed decides only which segments there are, and where no fault applies it finds none. "
-    yield "The law `first_of_all` of `ps_laws` says that the first fault is the same by both, and `one_reading` of `ps_linkinfo` that link information has one reading.\n\n"
+    yield ("Which segments a link has is computed: tests find the library that has a unit, and "
+           "`reading` gives the records. Faults speak of the same by facts: read these. ")
+    yield ("The law `segments_have_origins` of `ps_laws` says by the facts where each segment "
+           "comes from, and `one_reading` of `ps_linkinfo` that link information has one "
+           "reading.\n\n")
     yield "| Read | Computed |\n|---|---|\n" + "".join(
         f"| `{facts}` | `{computed}` |\n" for facts, computed in TWINS
     )

@@ -1,7 +1,7 @@
 -- What is not said of linked bytes on the small files, computed.
 use Rattle.ps_examples.proofs.Vocabulary.{subst, ◌≡◌, ℕ, zero, suc, List, [], ◌∷◌, Some, false, true, sym, ap, ◌∙◌, arith, slice_get, false≢true, blank_name, util, aux, tools, count, state, demo_segment, util_segment, using_segment, aux_segment, tools_segment, pair, three, with_plain, with_constant, with_unused, UnitRef, PublDef, ConstDef, Eof, Record}
 use Rattle.ps_examples.proofs.NotOrigins.{heads, same, util_aux}
-use Rattle.ps_resolve.specs.Added.{empty_slots, rounds, segments}
+use Rattle.ps_resolve.specs.Added.{added_segments, empty_slots, segments}
 use Rattle.ps_resolve.specs.LinkedBytes.{IsHostRecord, Becomes, IsSlotOf, IsPublic, IsBase}
 use Rattle.ps_linkinfo.specs.declared.record.Body.{Body}
 use Rattle.ps_codefile.specs.Roles.{is_host, is_unit}
@@ -49,7 +49,7 @@ none_named a b rest name f g h (suc (suc k)) q e u n = h k q e u n
 
 -- slot 8 of the plain segment TOOLS is not the slot of a unit of that name
 pub a_plain_segment_is_no_unit : IsSlotOf with_plain tools 8 → ⊥
-unfolding own_segments empty_slots rounds segments
+unfolding own_segments added_segments empty_slots segments
 a_plain_segment_is_no_unit t = none_named demo_segment util_segment (tools_segment ∷ []) tools
     (λ u n. false≢true u) (λ u n. util_tools n) last t.0 t.1 t.2 t.3.0 t.3.1
   where
@@ -60,7 +60,7 @@ a_plain_segment_is_no_unit t = none_named demo_segment util_segment (tools_segme
 
 -- slot 7, which UTIL has, is not the slot of a unit AUX
 pub not_the_unit_of_another_name : IsSlotOf pair aux 7 → ⊥
-unfolding own_segments empty_slots rounds segments
+unfolding own_segments added_segments empty_slots segments
 not_the_unit_of_another_name t = none_named demo_segment util_segment [] aux
     (λ u n. false≢true u) (λ u n. util_aux n) none t.0 t.1 t.2 t.3.0 t.3.1
   where
@@ -69,7 +69,7 @@ not_the_unit_of_another_name t = none_named demo_segment util_segment [] aux
 
 -- slot 1, which the host's segment has, is not the slot of the unit UTIL
 pub not_another_slot : IsSlotOf pair util 1 → ⊥
-unfolding own_segments empty_slots rounds segments
+unfolding own_segments added_segments empty_slots segments
 not_another_slot t = go t.0 t.1 t.2 t.3.0 t.3.2
   where
     go : (k : ℕ) (q : Segment) → slice_get (demo_segment ∷ util_segment ∷ []) k ≡ Some q
@@ -138,7 +138,7 @@ definition_is a b e = cc
 
 -- the base offset of the pair is 8
 pub base_of_pair : (base : ℕ) → IsBase pair base → 8 ≡ base
-unfolding own_segments empty_slots rounds segments
+unfolding own_segments added_segments empty_slots segments
 base_of_pair base t = go t.0 t.1 (of_first demo_segment (util_segment ∷ []) no_host t.0 t.1 t.2)
     t.3
   where
@@ -155,7 +155,7 @@ base_of_pair base t = go t.0 t.1 (of_first demo_segment (util_segment ∷ []) no
 -- operands
 pub not_the_slot_of_another_unit : Becomes three using_segment 0 aux (UnitRef (2 ∷ [])) 2
     (7 ∷ []) → ⊥
-unfolding own_segments empty_slots rounds segments
+unfolding own_segments added_segments empty_slots segments
 not_the_slot_of_another_unit t = go t.0 (heads _ _ _ _ t.2) t.1.0 t.1.1 t.1.2 t.1.3.0 t.1.3.1
     t.1.3.2
   where

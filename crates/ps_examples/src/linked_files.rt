@@ -6,7 +6,7 @@ ghost use Rattle.ps_words.specs.declared.order.Order.TheVariants.{Little, Big};
 
 /// What is written of a host and its library, of a host with its unit in place, and of a unit that
 /// only a unit names.
-#[tactic(auto, unfolding(ps_reading::specs::Sources::own_segments, ps_reading::specs::Added::empty_slots, ps_reading::specs::Added::rounds, ps_reading::specs::Added::segments, ps_reading::specs::Added::slot_names, ps_linkfile::specs::LinkedFile::dictionary, ps_linkfile::specs::LinkedFile::all_pairs))]
+#[tactic(auto, unfolding(ps_reading::specs::Sources::own_segments, ps_reading::specs::Added::empty_slots, ps_reading::specs::Added::added_segments, ps_reading::specs::Added::segments, ps_reading::specs::Added::slot_names, ps_linkfile::specs::LinkedFile::dictionary, ps_linkfile::specs::LinkedFile::all_pairs))]
 pub fn linked_bytes()
     ensures a_host_and_its_library { linked_file host (library ∷ []) ≡ linked_pair Little }
     ensures the_same_big_endian { linked_file (host_in Big) (library_in Big ∷ [])

@@ -1,12 +1,13 @@
 -- The fault that is first is about what has the name that is computed.
-use Rattle.ps_laws.proofs.Vocabulary.{◌≡◌, ◌∙◌, ◌<◌, ◌≤◌, ◌∷◌, ◌⊎◌, ℕ, Bool, true, false, List, take, Option, Some, None, Result, Ok, arith, ap, inl, inr, refl, subst, sym, some_pair_parts, slice_get, option_map_or, result_ok, in_file, in_record, in_slot, Fault, Reason, Order, entry_at, is_empty, is_host, SLOTS, Entry, Role, bad, Body, PublRef, Record, added_segments, segments, sources_fault, reading_fault, Segment, file_at, host_of, library_file, order_of, own_segments, source_of, HasRole, SlotHas, UnitReference, IsFirst, StandsIn, OfAdded, OfDataSize, OfDefinitions, OfHost, OfLibraries, OfNoHost, OfPrivates, OfReferences, OfSlots, OfSources, Step, key, turn, PrivateHas, RecordHas, ReferenceHas, IsRequested, IsSegment, CodeFault, EntryFault, Before, IsOfLink, in_empty}
+use Rattle.ps_laws.proofs.Vocabulary.{◌≡◌, ◌∙◌, ◌+◌, ◌<◌, ◌≤◌, ◌∷◌, ◌⊎◌, ℕ, Bool, true, false, List, length, take, Option, Some, None, Result, Ok, arith, ap, inl, inr, refl, subst, sym, some_pair_parts, slice_get, option_map, option_map_or, result_ok, in_file, in_record, in_slot, Fault, Reason, Order, entry_at, is_empty, is_host, SLOTS, Entry, Role, bad, Body, PublRef, Record, added_fault, added_segments, segments, sources_fault, reading_fault, Segment, file_at, host_of, library_file, order_of, own_segments, source_of, HasRole, SlotHas, UnitReference, IsFirst, StandsIn, OfAdded, OfDataSize, OfDefinitions, OfHost, OfLibraries, OfNoHost, OfPrivates, OfReferences, OfSlots, OfSources, Step, key, turn, PrivateHas, RecordHas, ReferenceHas, IsRequested, IsSegment, CodeFault, EntryFault, Before, IsOfLink, in_empty, rounds_fine, InRound}
 use Rattle.ps_words.specs.FaultPlaces.{is_unread, read_record}
 use Rattle.ps_words.specs.FaultText.{number_of}
 use Rattle.ps_words.specs.declared.fault.Reason.TheVariants as reason
 use Rattle.ps_codefile.specs.declared.entry.Role.TheVariants as role
-use Rattle.ps_reading.specs.Added.{empty_slots}
+use Rattle.ps_reading.specs.Added.{empty_slots, rounds}
 use Rattle.ps_reading.specs.FaultNames.{fault_name}
 use Rattle.ps_reading.specs.Faults.{host_fault, libraries_fault}
+use Rattle.ps_reading.proofs.EachRound.{begins, rounds_added}
 use Rattle.ps_laws.proofs.AddedUnits.{given, split_at}
 use Rattle.ps_laws.proofs.FaultParts.{record_reason}
 use Rattle.ps_lists.proofs.Items.{find_in, find_passes, of_take}
@@ -14,11 +15,13 @@ use Rattle.ps_laws.proofs.Least.{Least, this}
 use Rattle.ps_laws.proofs.OfLink.{of_link}
 use Rattle.ps_laws.proofs.OneName.{of_segments}
 use Rattle.ps_laws.proofs.RequestedUnits.{empty_slot, found_added, own_at}
+use Rattle.ps_laws.proofs.Rounds.{Earlier, Place, last_fault}
 use Rattle.ps_laws.proofs.Segments.{own_in_slot}
 use Rattle.ps_laws.proofs.Sources.{OneStop, step_5}
 use Rattle.ps_laws.proofs.Steps.{step_1, step_4}
 use Rattle.ps_laws.proofs.Whole.{unread}
 use Rattle.ps_fault_laws.specs.About.{HasSlotAlone, IsAbout, IsNameInRecord, IsNameOfSlot, IsOfUnread}
+use Rattle.ps_fault_laws.proofs.ReadSegments.{IsReadIn, read_of_link, read_of_round, read_of_slot}
 use Rattle.ps_fault_laws.proofs.ReadNames.{named_by_entry, named_by_record, named_by_request}
 use Rattle.ps_fault_laws.proofs.RequestedNames.{requested_at}
 
@@ -104,6 +107,32 @@ absent : {B : Fault → Fault → Type 0} {P : Fault → Type 0} (o : Option Fau
     → ((g : Fault) → P g → ⊥) → o ≡ None
 absent None least none = refl
 absent (Some g) (this x s l) none = absurd (none x s)
+
+-- the smallest of what applies applies
+smallest : {X : Type 0} {B : X → X → Type 0} {S : X → Type 0} {x : X} → Least B S (Some x) → S x
+smallest (this x s l) = s
+
+-- a round is known by its step, and a key of a round is before none of an earlier round
+round_number : (j k : ℕ) → OfAdded j ≡ OfAdded k → j ≡ k
+round_number j k e = cc
+
+not_later : (k j : ℕ) (f g : Fault) → Before (key (OfAdded k) f) (key (OfAdded j) g) → k ≤ j
+not_later k j f g (inl less) = omega (arith, less)
+not_later k j f g (inr (same, inl less)) = omega (arith, less)
+not_later k j f g (inr (same, inr later)) = (let e = later.0 in omega (arith, e))
+
+-- a segment that is added before the fault is that of a round
+in_rounds : (order : Order) (host : List ℕ) (libs : List (List ℕ)) (j : ℕ) (s : Segment)
+    → j < length (rounds order host libs).added
+    → slice_get (added_segments order host libs) j ≡ Some s
+    → slice_get (rounds order host libs).added j ≡ Some s
+in_rounds order host libs j s early e =
+    let added = (rounds order host libs).added in
+    elim (split_at added (begins order host libs).0 j s
+    (sym (ap (λ (l : List Segment). slice_get l j) (begins order host libs).1) ∙ e)) [
+      | inl h ↦ h
+      | inr u ↦ (let at = u.1 in absurd (omega (arith, at, early)))
+    ]
 
 -- what applies to a slot is said of one that is not empty
 two_roles : (r : Result Role Reason) (a b : Role) → r ≡ Ok a → r ≡ Ok b → a ≡ b
@@ -203,8 +232,9 @@ module _ (law : OneStop) (host : List ℕ) (libs : List (List ℕ)) (f : Fault)
       of_slot host libs f slot at (entry_at (order_of host) host slot).name (inl (has, refl))
       (named_by_entry host libs (host_fine lt) f slot at.0 inside (none_read f at.1) has)
 
-  -- of a record of a segment
-  own_record : (s : Segment) → IsSegment (order_of host) host libs s → (rec : ℕ) (r : Record)
+  -- of a record of a segment that was read
+  own_record : (s : Segment) → IsSegment (order_of host) host libs s
+      → IsReadIn (order_of host) host libs s.slot s → (rec : ℕ) (r : Record)
       → slice_get s.records rec ≡ Some r → 5 < turn first.step → (i : Option ℕ)
       (why : Reason)
       → f ≡ record {
@@ -214,58 +244,129 @@ module _ (law : OneStop) (host : List ℕ) (libs : List (List ℕ)) (f : Fault)
         rec = Some rec;
         reference = i;
       } → is_unread why ≡ false → IsNamed host libs f
-  own_record s there rec r e lt i why is read =
+  own_record s there found rec r e lt i why is read =
       let at : f.slot ≡ Some s.slot = rw is refl in
       let u : f.rec ≡ Some rec = rw is refl in
       let known : is_unread f.reason ≡ false = rw is read in
       of_record host libs f s.slot rec at u known r.name (s, there, (rw is refl, at, r, e, refl))
       (named_by_record host libs (host_fine (omega (arith, lt))) f s.slot at there.0
-      (libraries_fine (omega (arith, lt))) (sources_fine lt) s there.1 rec
-      (one_read f rec u known) r e)
+      (libraries_fine (omega (arith, lt))) s found rec (one_read f rec u known) r e)
+
+  -- of a segment of the link, where the rounds have no fault
+  linked_read : (s : Segment) → IsSegment (order_of host) host libs s → 6 < turn first.step
+      → IsReadIn (order_of host) host libs s.slot s
+  linked_read s there lt = read_of_link (order_of host) host libs
+      (sources_fine (omega (arith, lt))) s.slot there.0 s (rounds_fine host libs (reading_fine lt))
+      there.1
+
+  linked_record : (s : Segment) → IsSegment (order_of host) host libs s → (rec : ℕ)
+      (r : Record) → slice_get s.records rec ≡ Some r → 6 < turn first.step → (i : Option ℕ)
+      (why : Reason)
+      → f ≡ record {
+        reason = why;
+        file = s.file;
+        slot = Some s.slot;
+        rec = Some rec;
+        reference = i;
+      } → is_unread why ≡ false → IsNamed host libs f
+  linked_record s there rec r e lt =
+      own_record s there (linked_read s there lt) rec r e (omega (arith, lt))
+
+  -- no round before that of the first fault has a fault
+  none_before : (k : ℕ) (g : UnitReference) → first.step ≡ OfAdded k
+      → IsRequested (order_of host) host libs k g
+      → k ≤ length (rounds (order_of host) host libs).added
+  none_before k g here t =
+      by (added_fault (order_of host) host libs) refl (last_fault law (order_of host) host libs)
+    where
+      by : (o : Option Fault) → added_fault (order_of host) host libs ≡ o
+          → Least Earlier (λ p. (j : ℕ) × (x : Fault) × (p ≡ (OfAdded j, x))
+          × InRound (order_of host) host libs j x)
+          (option_map {U = Place}
+          (λ x. (OfAdded (0 + length (rounds (order_of host) host libs).added), x)) o)
+          → k ≤ length (rounds (order_of host) host libs).added
+      by None e least =
+          let same = ap (λ (l : List Segment). length l)
+          (rounds_added (order_of host) host libs e) in
+          let low = t.0 in
+          omega (arith, same, low)
+      by (Some x) e least =
+          let last = smallest least in
+          let at = round_number _ last.0 (ap (λ (p : Place). p.0) last.2) in
+          elim (first.least (OfAdded last.0) last.1 (record { stands = last.3 })) [
+            | inl u ↦ (let same = round_number last.0 k (u.0 ∙ here) in omega (arith, same, at))
+            | inr b ↦ (let low = not_later k last.0 f last.1 (rw here at b) in
+                omega (arith, low, at))
+          ]
 
   -- the segment of the record that requests a name
   giver : (k : ℕ) (g : UnitReference) → IsRequested (order_of host) host libs k g
-      → (s : Segment) × IsSegment (order_of host) host libs s × (g.at.segment.file ≡ s.file)
+      → k ≤ length (rounds (order_of host) host libs).added → 5 < turn first.step
+      → (s : Segment) × IsSegment (order_of host) host libs s
+      × IsReadIn (order_of host) host libs s.slot s × (g.at.segment.file ≡ s.file)
       × (g.at.segment.slot ≡ s.slot) × (r : Record)
       × (slice_get s.records g.at.rec ≡ Some r) × (r.name ≡ g.name)
-  giver k g t =
+  giver k g t few lt =
       let order : Order = order_of host in
       let by = given order host libs (take k (added_segments order host libs)) k g t.1 in
       let s = by.1.0.0 in
       let asks = by.1.1 in
       let same : asks.0 ≡ s = (let a = asks.1 in let b = by.1.0.1 in cc) in
-      let there : IsSegment order host libs s =
+      let there : IsSegment order host libs s × IsReadIn order host libs s.slot s =
       elim (split_at (own_segments order host libs) _ by.0 s by.1.0.1) [
         | inl h ↦
             let o = own_at order host libs s (by.0, h) in
             let at = own_in_slot order host libs o.0 s o.2 in
-            rw at (o.1, rw o.2 refl)
+            rw at (
+              (o.1, rw o.2 refl),
+              read_of_slot order host libs (sources_fine lt) o.0 o.1 s o.2,
+            )
         | inr u ↦
             let v = of_take k (added_segments order host libs) u.0 s u.2 in
             let at = (empty_slot order host u.0 s.slot
             (in_empty order host libs u.0 s v.1)).1 in
-            (omega (arith, at), found_added order host libs u.0 s v.1)
-      ] in (s, there, by.1.0.2, by.1.0.3, asks.2, rw same at asks.3, asks.5)
+            let inside : s.slot < SLOTS = omega (arith, at) in
+            let early : u.0 < length (rounds order host libs).added = omega (arith, v.0, few) in (
+              (inside, found_added order host libs u.0 s v.1),
+              read_of_round order host libs (sources_fine lt) s.slot inside s u.0
+                  (in_rounds order host libs u.0 s early v.1) refl,
+            )
+      ] in (
+        s,
+        there.0,
+        there.1,
+        by.1.0.2,
+        by.1.0.3,
+        asks.2,
+        rw same at asks.3,
+        asks.5,
+      )
 
   -- of a record that requests a name
-  of_giver : (k : ℕ) (g : UnitReference) → IsRequested (order_of host) host libs k g
-      → 5 < turn first.step → (why : Reason) → is_unread why ≡ false
+  of_giver : (k : ℕ) (g : UnitReference) → first.step ≡ OfAdded k
+      → IsRequested (order_of host) host libs k g → (why : Reason) → is_unread why ≡ false
       → f ≡ in_record g.at.segment.file g.at.segment.slot g.at.rec why → IsNamed host libs f
-  of_giver k g t lt why read is = let by = giver k g t in let file = by.2 in let slot = by.3 in
-      own_record by.0 by.1 g.at.rec by.4 by.5 lt None why (cc) read
+  of_giver k g here t why read is =
+      let lt : 5 < turn first.step = rw here (omega arith) in
+      let by = giver k g t (none_before k g here t) lt in
+      let file = by.3 in
+      let slot = by.4 in
+      own_record by.0 by.1 by.2 g.at.rec by.5 by.6 lt None why (cc) read
 
   -- of the unit that takes an empty slot
-  in_round : (k : ℕ) (g : UnitReference) → IsRequested (order_of host) host libs k g
+  in_round : (k : ℕ) (g : UnitReference) → first.step ≡ OfAdded k
+      → IsRequested (order_of host) host libs k g
       → (slot : ℕ) → slice_get (empty_slots (order_of host) host) k ≡ Some slot
-      → 5 < turn first.step → HasSlotAlone f slot → IsNamed host libs f
-  in_round k g t slot left lt at =
+      → HasSlotAlone f slot → IsNamed host libs f
+  in_round k g here t slot left at =
       let order : Order = order_of host in
+      let lt : 5 < turn first.step = rw here (omega arith) in
       let low = empty_slot order host k slot left in
       let high = low.1 in
       of_slot host libs f slot at g.name (inr (k, g, t, left, refl))
       (named_by_request host libs (host_fine (omega (arith, lt))) f slot at.0 (omega (arith, high))
       (libraries_fine (omega (arith, lt))) (none_read f at.1) (empty_is _ low.2) g
-      (requested_at order host libs k g t (sources_fine lt) slot left))
+      (requested_at order host libs k g t (none_before k g here t) (sources_fine lt) slot left))
 
   -- the host's own segment
   host_segment : 6 < turn first.step → (s : Segment)
@@ -325,20 +426,20 @@ module _ (law : OneStop) (host : List ℕ) (libs : List (List ℕ)) (f : Fault)
       own_slot slot inside (rw e (omega arith)) (has_source slot r has c.0 c.1)
       (of_code_at slot r c.0 c.2)
   by_step (OfAdded k) e (g, t, inl m) =
-      of_giver k g t (rw e (omega arith)) reason.MissingUnit refl m.0
+      of_giver k g e t reason.MissingUnit refl m.0
   by_step (OfAdded k) e (g, t, inr (inl n)) =
-      of_giver k g t (rw e (omega arith)) reason.NoSlot refl n.0
+      of_giver k g e t reason.NoSlot refl n.0
   by_step (OfAdded k) e (g, t, inr (inr (slot, left, inl u))) =
-      in_round k g t slot left (rw e (omega arith))
+      in_round k g e t slot left
       (of_entries (order_of host) g.name libs slot f u)
   by_step (OfAdded k) e (g, t, inr (inr (slot, left, inr c))) =
-      in_round k g t slot left (rw e (omega arith))
+      in_round k g e t slot left
       (of_code_at slot role.Wanted c.0 c.2)
   by_step OfDefinitions e t =
       let of = host_segment (rw e (omega arith)) t.0 t.1 in
-      own_record t.0 of.0 t.2.0 t.2.1 t.2.2 (rw e (omega arith)) None _ (rw of.1 at t.2.3.0) refl
+      linked_record t.0 of.0 t.2.0 t.2.1 t.2.2 (rw e (omega arith)) None _ (rw of.1 at t.2.3.0) refl
   by_step OfPrivates e t =
-      own_record t.0 t.1 t.2.0 t.2.1 t.2.2 (rw e (omega arith)) None t.2.3.0 t.2.3.1
+      linked_record t.0 t.1 t.2.0 t.2.1 t.2.2 (rw e (omega arith)) None t.2.3.0 t.2.3.1
       (of_private (segments (order_of host) host libs) t.0 t.2.0 t.2.1 t.2.3.0 t.2.3.2)
   by_step OfDataSize e t =
       let of = host_segment (rw e (omega arith)) t.0 t.1 in
@@ -346,10 +447,10 @@ module _ (law : OneStop) (host : List ℕ) (libs : List (List ℕ)) (f : Fault)
       (λ u. let two = two_roles _ role.Host role.Empty of.2 u in cc)
       (alone f 0 t.0.slot _ t.2.2.0)
   by_step OfReferences e (s, there, (rec, r, at, inl u)) =
-      own_record s there rec r at (rw e (omega arith)) None u.0 u.1
+      linked_record s there rec r at (rw e (omega arith)) None u.0 u.1
       (of_name (segments (order_of host) host libs) r.name r.body u.0 u.2)
   by_step OfReferences e (s, there, (rec, r, at, inr (i, x, ref, u))) =
-      own_record s there rec r at (rw e (omega arith)) (Some i) u.0 u.1
+      linked_record s there rec r at (rw e (omega arith)) (Some i) u.0 u.1
       (of_reference (order_of host) (segments (order_of host) host libs) s rec r i x u.0 u.2)
 
   pub about : IsNamed host libs f

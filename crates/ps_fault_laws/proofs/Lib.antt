@@ -1,3 +1,4 @@
+pub mod ReadSegments
 pub mod ReadNames
 pub mod RequestedNames
 pub mod EachFault

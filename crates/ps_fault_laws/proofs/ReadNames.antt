@@ -1,18 +1,15 @@
 -- The name that is computed for a slot or a record of a host that is opened.
-use Rattle.ps_laws.proofs.Vocabulary.{◌≡◌, ◌∙◌, ◌<◌, ℕ, List, Option, Some, None, Result, Ok, Err, arith, refl, sym, find, slice_get, unwrap_or, Fault, Reason, Order, entry_at, opened_alone, SLOTS, Role, Record, request_of, sources_fault, Segment, order_of, HasRole, UnitReference, slot_parts}
+use Rattle.ps_laws.proofs.Vocabulary.{◌≡◌, ◌∙◌, ◌<◌, ℕ, List, Option, Some, None, Result, Ok, Err, arith, refl, sym, slice_get, unwrap_or, Fault, Reason, Order, entry_at, opened_alone, SLOTS, Role, Record, request_of, Segment, order_of, HasRole, UnitReference}
 use Rattle.ps_words.specs.FaultPlaces.{read_record}
 use Rattle.ps_codefile.specs.Dictionary.{OpenedFile}
 use Rattle.ps_codefile.specs.declared.entry.Role.TheVariants as role
-use Rattle.ps_reading.specs.Added.{segment_at, segments}
 use Rattle.ps_reading.specs.FaultNames.{fault_name, host_slot, name_at, name_by_role, name_in_record, name_in_slot}
 use Rattle.ps_reading.specs.Faults.{host_fault, libraries_fault}
-use Rattle.ps_reading.specs.KnownSegments.{is_in_slot}
-use Rattle.ps_reading.specs.Readings.{HostFiles, all_read, opened_host, slot_request}
-use Rattle.ps_reading.specs.Sources.{opened_files}
-use Rattle.ps_reading.proofs.InSlots.{found_there}
+use Rattle.ps_reading.specs.Readings.{HostFiles, opened_host, slot_request}
 use Rattle.ps_reading.proofs.NamesRead.{named_in_slot}
 use Rattle.ps_reading.proofs.ReadingHosts.{host_is}
-use Rattle.ps_reading.proofs.ReadingSlots.{all_are, libraries_are}
+use Rattle.ps_reading.proofs.ReadingSlots.{libraries_are}
+use Rattle.ps_fault_laws.proofs.ReadSegments.{IsReadIn}
 
 -- the name of a slot whose role is not Empty is that of its entry
 by_entry : (name other : List ℕ) (r : Result Role Reason) → (r ≡ Ok role.Empty → ⊥)
@@ -34,14 +31,6 @@ module _ (host : List ℕ) (libs : List (List ℕ)) where
 
   abbrev files : HostFiles
   files = record { order = order_of host; file = host; libs = libs }
-
-  -- the segment of a link that is found in a slot is that of the slot
-  in_its_slot : (slot : ℕ) → slot < SLOTS
-      → find (is_in_slot slot) (segments order host libs) ≡ segment_at order host libs slot
-  unfolding segments
-  in_its_slot slot inside = found_there (segment_at order host libs)
-      (λ j q e. (slot_parts order host libs j q e).0) slot SLOTS 0 (omega arith)
-      (omega (arith, inside))
 
   -- a host that has no fault by itself is opened
   pub opened : host_fault host ≡ None → opened_host host libs ≡ Ok files
@@ -80,17 +69,11 @@ module _ (host : List ℕ) (libs : List (List ℕ)) where
           in_slot : name_in_slot files slot ≡ g.name
           in_slot = rw (libraries_are order host libs whole, requested) refl
 
-      -- with a record that was read: the name in the record of the slot's segment
-      pub named_by_record : sources_fault order host libs ≡ None → (s : Segment)
-          → segment_at order host libs slot ≡ Some s → (rec : ℕ)
+      -- with a record that was read: the name in the record of the segment that was read there
+      pub named_by_record : (s : Segment) → IsReadIn order host libs slot s → (rec : ℕ)
           → read_record f ≡ Some rec → (r : Record) → slice_get s.records rec ≡ Some r
           → fault_name host libs f ≡ Some r.name
-      named_by_record sound s there rec read r is = named (Some rec) read ∙ in_record
+      named_by_record s there rec read r is = named (Some rec) read ∙ in_record
         where
-          read_are_linked : all_read order host (opened_files order libs)
-              ≡ segments order host libs
-          read_are_linked =
-              rw (libraries_are order host libs whole) (all_are order host libs sound)
-
           in_record : name_in_record files slot rec ≡ Some r.name
-          in_record = rw (read_are_linked, in_its_slot slot inside, there, is) refl
+          in_record = rw (libraries_are order host libs whole, there, is) refl

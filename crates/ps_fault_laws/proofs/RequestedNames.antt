@@ -1,12 +1,12 @@
 -- The unit that is requested for an empty slot, where the sources of the host's own slots have no
 -- fault: the k-th name that is looked up takes the k-th empty slot.
-use Rattle.ps_laws.proofs.Vocabulary.{◌≡◌, ◌∙◌, ◌<◌, ◌≤◌, ◌+◌, ◌==◌, ◌∷◌, ◌++◌, [], ℕ, zero, suc, Bool, List, Some, None, arith, ap, refl, sym, take, filter, enumerate_from, find, range_with_len, slice_get, Order, FIRST_ADDED, is_empty, added_segments, all_unit_references, request_of, is_role, sources_fault, MAX_ADDED, UnitReference, IsRequested, own_units}
+use Rattle.ps_laws.proofs.Vocabulary.{◌≡◌, ◌∙◌, ◌<◌, ◌≤◌, ◌+◌, ◌==◌, ◌∷◌, ◌++◌, [], ℕ, zero, suc, Bool, List, Some, None, arith, ap, refl, sym, take, filter, enumerate_from, find, range_with_len, slice_get, length, Segment, Order, FIRST_ADDED, is_empty, added_segments, all_unit_references, request_of, is_role, sources_fault, MAX_ADDED, UnitReference, IsRequested, own_units}
 use Rattle.std.proofs.Common.{drop}
-use Rattle.std.proofs.lemmas.List.{take-append-drop}
-use Rattle.ps_reading.specs.Added.{empty_slots, requested_units}
+use Rattle.std.proofs.lemmas.List.{take-append-drop, take-append-le}
+use Rattle.ps_reading.specs.Added.{empty_slots, requested_units, rounds}
 use Rattle.ps_reading.specs.Readings.{queued_request, read_requests, slot_request}
 use Rattle.ps_reading.specs.declared.reading.added.TheConstants.{MAX_REQUESTED}
-use Rattle.ps_reading.proofs.EachRound.{requested_rest}
+use Rattle.ps_reading.proofs.EachRound.{begins, requested_rest}
 use Rattle.ps_reading.proofs.KnownNames.{grown}
 use Rattle.ps_reading.proofs.ReadingSlots.{read_are, rounds_are}
 use Rattle.ps_reading.proofs.Requested.{of_empty}
@@ -47,23 +47,34 @@ module _ (order : Order) (host : List ℕ) (libs : List (List ℕ)) where
   first_place k slot e j h u = let lt = empty_ascend order host j k slot slot h u e in
       omega (arith, lt)
 
-  module _ (k : ℕ) (g : UnitReference) (requested : IsRequested order host libs k g) where
+  module _ (k : ℕ) (g : UnitReference) (requested : IsRequested order host libs k g)
+      (before : k ≤ length (rounds order host libs).added) where
+    abbrev added : List Segment
+    added = (rounds order host libs).added
+
+    -- the rounds before this one have no fault, so they add what is added
+    same_added : take k added ≡ take k (added_segments order host libs)
+    same_added =
+        let all = begins order host libs in
+        sym (ap (take k) all.1 ∙ take-append-le k added all.0 before)
+
     -- the name is the k-th of all, which later ones follow
-    in_queue : slice_get (requested_units order host libs (added_segments order host libs)) k
-        ≡ Some g
+    in_queue : slice_get (requested_units order host libs added) k ≡ Some g
     in_queue =
-        let added = added_segments order host libs in
         let rest = all_unit_references (drop k added) in
-        let before = requested_units order host libs (take k added) in
-        let more = grown (own_units order host libs) before rest in
-        let all : requested_units order host libs added ≡ before ++ more.0 =
+        let queue = requested_units order host libs (take k added) in
+        let more = grown (own_units order host libs) queue rest in
+        let all : requested_units order host libs added ≡ queue ++ more.0 =
         ap (requested_units order host libs) (sym (take-append-drop k added))
         ∙ requested_rest order host libs (take k added) (drop k added) ∙ more.1 in
-        rw all (at_left before more.0 k g requested.1)
+        let name : slice_get queue k ≡ Some g =
+        ap (λ (l : List Segment). slice_get (requested_units order host libs l) k) same_added
+        ∙ requested.1 in
+        rw all (at_left queue more.0 k g name)
 
     module _ (sound : sources_fault order host libs ≡ None) where
       read_requests_are : read_requests order host libs
-          ≡ take MAX_REQUESTED (requested_units order host libs (added_segments order host libs))
+          ≡ take MAX_REQUESTED (requested_units order host libs added)
       unfolding read_requests requested_units
       read_requests_are =
           rw (read_are order host libs sound, rounds_are order host libs sound) refl

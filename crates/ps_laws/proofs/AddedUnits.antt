@@ -1,5 +1,5 @@
 -- The units that are added are those that are requested, as they are said plainly.
-use Rattle.ps_laws.proofs.Vocabulary.{◌⊎◌, ◌≢◌, slice_get, AddedUnits, if◌then◌else◌, is_unit_reference, all_unit_references, Order, bytes_eq, cases_lt, entry_at, SomeItem, source_of, RequestsAt, lookup, Record, Before, IsGiver, Reason, option_map, IsUnitSlot, Role, role_fault, code_fault, own_segment, bytes_eq-Decides, information_of, unit_references, cases_order, false≢true, added_fault, unit_source, UnitReference, code_of, IsOfFile, HasRole, reading, is_unit, Segment, enumerate_from, nat_lt, requested_from, added_segments, request_by_slot, needs_linking, rules, ◌≡◌, ℕ, zero, suc, ◌+◌, ◌-◌, ◌<◌, ◌≤◌, List, [], ◌∷◌, ◌++◌, length, map, Option, Some, None, Ok, true, false, refl, sym, ap, subst, ◌∙◌, inl, inr, arith, is_some, length-append, length-take, take, or_cases, or_left, lt-ltb, slice_get_within, slice_get-map, sources_fault, information_block, own_segments, HasSlot, AreGiven, IsOfFirstLibrary, made_from, own_units, references_of, request_parts, source_made, unit_there, role_none, round_known, in_empty, name_placed, queue_of, round_at, segment_named, SLOTS}
+use Rattle.ps_laws.proofs.Vocabulary.{◌⊎◌, ◌≢◌, slice_get, AddedUnits, if◌then◌else◌, is_unit_reference, all_unit_references, Order, bytes_eq, cases_lt, entry_at, SomeItem, source_of, RequestsAt, lookup, Record, Before, IsGiver, Reason, option_map, IsUnitSlot, Role, role_fault, code_fault, own_segment, bytes_eq-Decides, information_of, unit_references, cases_order, false≢true, added_fault, unit_source, UnitReference, code_of, IsOfFile, HasRole, reading, is_unit, Segment, enumerate_from, nat_lt, requested_from, added_segments, request_by_slot, needs_linking, rules, ◌≡◌, ℕ, zero, suc, ◌+◌, ◌-◌, ◌<◌, ◌≤◌, List, [], ◌∷◌, ◌++◌, length, map, Option, Some, None, Ok, true, false, refl, sym, ap, subst, ◌∙◌, inl, inr, arith, is_some, length-append, length-take, take, or_cases, or_left, lt-ltb, slice_get_within, slice_get-map, sources_fault, information_block, own_segments, HasSlot, AreGiven, IsOfFirstLibrary, made_from, own_units, references_of, request_parts, source_made, unit_there, role_none, round_known, in_empty, name_placed, queue_of, round_at, segment_named, segment_placed, SLOTS}
 use Rattle.ps_resolve.specs.Added.{is_already_known, requested_units}
 use Rattle.ps_codefile.specs.declared.entry.Role.TheVariants as role
 use Rattle.ps_laws.proofs.Least.{not_both}
@@ -388,7 +388,7 @@ module _ (order : Order) (host : List ℕ) (libs : List (List ℕ))
 
     is_found : (k : ℕ) (s : Segment) → slice_get (added_segments order host libs) k ≡ Some s
         → IsOfFirstLibrary order libs s
-    is_found k s e = grind (arith, segment_named, of_first_library, round_known)
+    is_found k s e = grind (arith, segment_placed, of_first_library, round_known)
 
     is_wanted : (k : ℕ) (s : Segment) → slice_get (added_segments order host libs) k ≡ Some s
         → (s.role ≡ role.Wanted) × (s.added ≡ true)

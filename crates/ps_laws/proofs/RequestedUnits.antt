@@ -39,7 +39,7 @@ module _ (order : Order) (host : List ℕ) where
 
 module _ (order : Order) (host : List ℕ) (libs : List (List ℕ)) where
   -- an empty slot has no segment of its own
-  not_own : (slot : ℕ)
+  pub not_own : (slot : ℕ)
       → is_role is_empty order host slot ≡ true → own_segment order host libs slot ≡ None
   not_own slot e = search rules
 

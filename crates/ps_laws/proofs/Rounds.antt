@@ -2,7 +2,7 @@
 use Rattle.ps_laws.proofs.Vocabulary.{◌⊎◌, if◌then◌else◌, Decides, slice_get, option_or, option_map, option_and_then, cases_lt, Decides-or, RoundsOutcome, after, added_segments, added_fault, Step, OfSources, OfAdded, rank, part, key, InRound, entry_fault, code_fault, Before, Segment, unit_source, UnitReference, in_record, Order, Fault, ◌≡◌, ◌≤◌, ◌∷◌, ◌∙◌, append-nil, length-append, ℕ, ◌+◌, length, Option, subst, arith, unwrap_or, List, [], take, Some, None, Bool, refl, inl, inr, record_read, IsMissing, PlacedFault, IsTurn, all_rounds, round_fault, segments_before}
 use Rattle.ps_resolve.specs.Added.{is_missing, requested_units, rounds}
 use Rattle.ps_codefile.specs.declared.entry.Role.TheVariants as role
-use Rattle.ps_laws.proofs.Least.{quiet, least_else, Least, nothing, this, Precedes, least_same, least_order, least_map}
+use Rattle.ps_laws.proofs.Least.{quiet, least_else, Least, nothing, this, Precedes, least_or_then, least_same, least_order, least_map}
 use Rattle.ps_laws.proofs.Looking.{of_test}
 use Rattle.ps_laws.proofs.Sources.{OneStop, none_has, unit_least, placed_late}
 use Rattle.ps_words.specs.declared.fault.Reason.TheVariants as reason
@@ -118,36 +118,60 @@ the_round law order host libs prefix rest k g left turn =
         let same : t.0 ≡ g = (let e = t.1.1 in cc (e, first)) in
         rw (← turn.slot_is, ← same) t.2
 
-module _ (order : Order) (host : List ℕ) (libs : List (List ℕ)) (prefix : List Segment)
-    (k : ℕ) where
-  -- the first fault of the last round is the smallest that applies from this round on
-  last_round : (o : Option Fault) → added_segments order host libs ≡ prefix
-      → k ≡ length prefix → Least (Precedes (OfAdded k)) (InRound order host libs k) o
-      → Least Earlier (FromRound order host libs k) (option_map (λ f. (OfAdded k, f)) o)
-  last_round o is at l =
-      least_same (λ p t. (k, t.0, omega arith, t.1, t.2)) from (tagged (OfAdded k) l)
+module _ (order : Order) (host : List ℕ) (libs : List (List ℕ)) (k : ℕ) where
+  -- the first fault of a round that has one is the smallest that applies from this round on
+  first_there : (f : Fault) → Least (Precedes (OfAdded k)) (InRound order host libs k) (Some f)
+      → Least Earlier (FromRound order host libs k) (Some (OfAdded k, f))
+  first_there f l = least_same to from (least_or_then (tagged (OfAdded k) l) none apart)
     where
-      from : (p : Place) → FromRound order host libs k p
-          → (f : Fault) × (p ≡ (OfAdded k, f)) × InRound order host libs k f
-      from p t = grind arith
+      Here : Place → Type 0
+      Here p = (g : Fault) × (p ≡ (OfAdded k, g)) × InRound order host libs k g
+
+      Later : Place → Type 0
+      Later = FromRound order host libs (k + 1)
+
+      none : option_map {U = Place} (λ g. (OfAdded k, g)) (Some f) ≡ None
+          → Least Earlier Later None
+      none e = absurd (cc)
+
+      apart : (p q : Place) → Here p → Later q → Earlier p q
+      apart p q s t = rw (s.1, t.3) (inr (refl, inl (let low = t.2 in omega (arith, low))))
+
+      to : (p : Place) → Here p ⊎ Later p → FromRound order host libs k p
+      to p (inl t) = (k, t.0, omega arith, t.1, t.2)
+      to p (inr t) = (t.0, t.1, (let low = t.2 in omega (arith, low)), t.3, t.4)
+
+      from : (p : Place) → FromRound order host libs k p → Here p ⊎ Later p
+      from p t = elim (cases_lt k t.0) [
+        | inl h ↦ inr (t.0, t.1, omega (arith, h), t.3, t.4)
+        | inr h ↦ (let same : t.0 ≡ k = (let low = t.2 in omega (arith, low, h)) in
+            inl (t.1, rw same at t.3, subst (λ (n : ℕ). InRound order host libs n t.1) same t.4))
+      ]
 
   -- where no name is left, nothing applies
-  no_name : added_segments order host libs ≡ prefix
+  no_name : (prefix : List Segment) → added_segments order host libs ≡ prefix
       → k ≡ length prefix → slice_get (requested_units order host libs prefix) k ≡ None
       → (p : Place) → FromRound order host libs k p → ⊥
-  no_name is at none p t = grind (arith, segments_before order host libs prefix [] k, append-nil)
+  no_name prefix is at none p t =
+      grind (arith, segments_before order host libs prefix [] k, append-nil)
 
--- the first fault of the rounds from one on, with its step
+-- the fault that ends the rounds from one on, with its step: as many rounds have none as add a
+-- segment
+abbrev pub place_of : ℕ → RoundsOutcome → Option Place
+place_of k r = option_map (λ f. (OfAdded (k + length r.added), f)) r.fault
+
+-- it is the smallest that applies from this round on
 abbrev RoundsHave : Order → List ℕ → List (List ℕ) → ℕ → RoundsOutcome → Type 0
-RoundsHave order host libs k r =
-    (o : Option Place) × Least Earlier (FromRound order host libs k) o
-    × (option_map (λ (x : Place). x.1) o ≡ r.fault)
+RoundsHave order host libs k r = Least Earlier (FromRound order host libs k) (place_of k r)
 
 -- the fault of a round without one is that of the rounds after it
 round_more : (order : Order) (host : List ℕ) (libs : List (List ℕ)) (k : ℕ)
     (s : Segment) (rest : RoundsOutcome) → ((f : Fault) → InRound order host libs k f → ⊥)
     → RoundsHave order host libs (k + 1) rest → RoundsHave order host libs k (after s rest)
-round_more order host libs k s rest none r = (r.0, least_same to from r.1, r.2)
+round_more order host libs k s rest none r =
+    let same : (k + 1) + length rest.added ≡ k + length (s ∷ rest.added) = omega arith in
+    subst (λ (n : ℕ). Least Earlier (FromRound order host libs k)
+    (option_map {U = Place} (λ f. (OfAdded n, f)) rest.fault)) same (least_same to from r)
   where
     to : (p : Place) → FromRound order host libs (k + 1) p → FromRound order host libs k p
     to p t = grind arith
@@ -161,14 +185,11 @@ round_more order host libs k s rest none r = (r.0, least_same to from r.1, r.2)
 
 -- the fault that ends the rounds is the smallest that applies in any of them, by round and then by
 -- fault
-pub step_6 : (law : OneStop) (order : Order) (host : List ℕ) (libs : List (List ℕ))
-    → (o : Option Place) × Least Earlier
-    (λ p. (k : ℕ) × (f : Fault) × (p ≡ (OfAdded k, f)) × InRound order host libs k f) o
-    × (option_map (λ (x : Place). x.1) o ≡ added_fault order host libs)
-step_6 law order host libs =
-    let same = least_same (λ p t. (t.0, t.1, t.3, t.4)) (λ p t. (t.0, t.1, omega arith, t.2, t.3))
-    r.1 in
-    (r.0, same, r.2)
+pub last_fault : (law : OneStop) (order : Order) (host : List ℕ) (libs : List (List ℕ))
+    → Least Earlier (λ p. (k : ℕ) × (f : Fault) × (p ≡ (OfAdded k, f))
+    × InRound order host libs k f) (place_of 0 (rounds order host libs))
+last_fault law order host libs =
+    least_same (λ p t. (t.0, t.1, t.3, t.4)) (λ p t. (t.0, t.1, omega arith, t.2, t.3)) r
   where
     here : (prefix rest : List Segment) (k : ℕ) (g : UnitReference) (slot : Option ℕ)
         (o : Option Fault) → IsTurn order host libs prefix rest k g slot → round_fault
@@ -178,11 +199,27 @@ step_6 law order host libs =
     r : RoundsHave order host libs 0 (rounds order host libs)
     r =
         all_rounds order host libs (RoundsHave order host libs)
-        (λ prefix k is at none. (let ends = no_name order host libs prefix k is at none in
-        (None, nothing ends, refl)))
-        (λ prefix k g slot f turn is. (let least = last_round order host libs prefix k (Some f)
-        (turn.all ∙ append-nil prefix) turn.many (here prefix [] k g slot (Some f) turn is) in
-        (Some (OfAdded k, f), least, refl)))
-        (λ prefix k g slot s rest turn fits from later.
+        (λ prefix k is at none. nothing (no_name order host libs k prefix is at none))
+        (λ prefix others k g slot f turn is. (let same : k ≡ k + 0 = omega arith in
+        subst (λ (n : ℕ). Least Earlier (FromRound order host libs k) (Some (OfAdded n, f))) same
+        (first_there order host libs k f (here prefix others k g slot (Some f) turn is))))
+        (λ prefix others k g slot s rest turn fits from later.
         round_more order host libs k s rest
-        (quiet (here prefix (s ∷ rest.added) k g (Some slot) None turn fits)) later)
+        (quiet (here prefix (s ∷ others) k g (Some slot) None turn fits)) later)
+
+-- the same, with the fault alone
+pub step_6 : (law : OneStop) (order : Order) (host : List ℕ) (libs : List (List ℕ))
+    → (o : Option Place) × Least Earlier
+    (λ p. (k : ℕ) × (f : Fault) × (p ≡ (OfAdded k, f)) × InRound order host libs k f) o
+    × (option_map (λ (x : Place). x.1) o ≡ added_fault order host libs)
+step_6 law order host libs = (
+  place_of 0 (rounds order host libs),
+  last_fault law order host libs,
+  alone (added_fault order host libs),
+)
+  where
+    alone : (o : Option Fault) → option_map (λ (x : Place). x.1)
+        (option_map {U = Place}
+        (λ f. (OfAdded (0 + length (rounds order host libs).added), f)) o) ≡ o
+    alone None = refl
+    alone (Some f) = refl

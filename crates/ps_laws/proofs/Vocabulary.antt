@@ -16,7 +16,7 @@ pub use Rattle.ps_resolve.proofs.EachSegment.{at_slot, find_has, own_made, own_m
 pub use Rattle.ps_resolve.proofs.FirstSlots.{none_mapped, none_mapped as map_none, or_none as both_none, some_mapped}
 pub use Rattle.ps_resolve.proofs.LookingBack.{again, definitions_carried, privates_carried, reason_at, record_fault, words_before}
 pub use Rattle.ps_resolve.proofs.OfLink.{has_host, of_link as all_of_link, own_known, role_none, round_known, rounds_fine, slots_fine, sources_fine}
-pub use Rattle.ps_resolve.proofs.OfRounds.{in_empty, name_placed, queue_of, round_at, segment_named}
+pub use Rattle.ps_resolve.proofs.OfRounds.{in_empty, name_placed, queue_of, round_at, segment_named, segment_placed}
 pub use Rattle.ps_resolve.proofs.ReadingKnown.{all_at, none_at, own_parts, slot_parts}
 pub use Rattle.ps_resolve.specs.Added.{RoundsOutcome, added_fault, added_segments, after, all_unit_references, request_of, requested_from, segments, unit_references}
 pub use Rattle.ps_resolve.specs.AllFaults.{reading_fault}

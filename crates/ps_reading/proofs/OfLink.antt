@@ -9,7 +9,7 @@ use Rattle.ps_reading.proofs.FirstSlots.{none_mapped, ok_is, or_none}
 use Rattle.ps_reading.proofs.ReadingKnown.{all_at, host_there, none_at, one_host}
 use Rattle.ps_reading.proofs.EachRound.{request_parts}
 use Rattle.ps_lists.proofs.Items.{In, all_in}
-use Rattle.ps_reading.proofs.OfRounds.{segment_named}
+use Rattle.ps_reading.proofs.OfRounds.{segment_placed}
 
 module _ (order : Order) (host : List ℕ) (libs : List (List ℕ)) where
   -- 1. the entry of a segment, whose code has no fault
@@ -101,7 +101,7 @@ module _ (host : List ℕ) (libs : List (List ℕ)) (read : reading_fault host l
       elim (at_slot order host libs (λ q. In q added) (all_in added) s.slot s there) [
         | inl own ↦ (let k = own_known order host libs parts.2 s.slot s inside own in
             (k.0, inl k.1))
-        | inr t ↦ (let k = segment_named order host libs t.2.0 s t.2.1 in
+        | inr t ↦ (let k = segment_placed order host libs parts.3 t.2.0 s t.2.1 in
             grind (arith, round_known))
       ]
 

@@ -2,8 +2,9 @@
 use Rattle.ps_reading.proofs.Vocabulary.{arith, ◌≡◌, ◌<◌, ◌==◌, ℕ, Bool, false, if◌then◌else◌, List, [], ◌∷◌, ◌++◌, ap, take, Option, Some, None, Result, Ok, Err, refl, ◌∙◌, filter_map, option_map_or, option_or, Order, in_file, Fault, Reason, OpenedFile, opened_alone, slots, first_of, reading_fault, segments_in_slots, MAX_REQUESTED, SLOTS}
 use Rattle.ps_reading.specs.Sources.{Segment, own_segment, own_segments, opened_files, order_of, units_of}
 use Rattle.ps_reading.specs.Faults.{slots_fault, no_host_fault, libraries_fault, source_fault, sources_fault}
-use Rattle.ps_reading.specs.Added.{RoundsOutcome, all_unit_references, empty_slots, requested_from, rounds, rounds_in, segments}
+use Rattle.ps_reading.specs.Added.{RoundsOutcome, added_fault, all_unit_references, empty_slots, requested_from, rounds, rounds_in, segments}
 use Rattle.ps_reading.specs.Readings.{HostFiles, all_read, fault_of_added, host_reading_fault, own_reading_fault, opened_host, read_requests, read_rounds, read_segment, read_segments, slot_after, slot_fault}
+use Rattle.ps_reading.proofs.EachRound.{rounds_added}
 use Rattle.ps_reading.proofs.FirstSlots.{neither_first, neither_second}
 use Rattle.ps_reading.proofs.InSlots.{in_slots_are}
 use Rattle.ps_reading.proofs.ReadingHosts.{host_is, host_read, host_refused, rest_of}
@@ -29,10 +30,10 @@ module _ (order : Order) (host : List ℕ) (libs : List (List ℕ)) where
   rounds_are h = grind (arith, read_are)
 
   -- all that were read are the segments of the link
-  pub all_are : sources_fault order host libs ≡ None
+  pub all_are : sources_fault order host libs ≡ None → added_fault order host libs ≡ None
       → all_read order host libs ≡ segments order host libs
   unfolding all_read
-  all_are h = grind (arith, read_are, rounds_are, in_slots_are)
+  all_are h fine = grind (arith, read_are, rounds_are, rounds_added, in_slots_are)
 
 module _ (order : Order) (host : List ℕ) (libs : List (List ℕ)) where
   pub libraries_are : libraries_fault order libs ≡ None → opened_files order libs ≡ libs
@@ -47,7 +48,7 @@ module _ (order : Order) (host : List ℕ) (libs : List (List ℕ)) where
   -- where there is none, the segments that were read are those of the link
   pub segments_are : host_reading_fault order host libs ≡ None
       → all_read order host (opened_files order libs) ≡ segments order host libs
-  segments_are h = grind (arith, reading_is, libraries_are, neither_first, all_are)
+  segments_are h = grind (arith, reading_is, libraries_are, neither_first, neither_second, all_are)
 
   -- what is read of the slots, by the words of the definitions
   abbrev files : List (List ℕ)

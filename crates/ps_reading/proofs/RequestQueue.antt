@@ -1,6 +1,6 @@
 -- The queue of names that are requested, of which only the first ten are kept, and the rounds that
 -- it gives.
-use Rattle.ps_reading.proofs.Vocabulary.{◌≡◌, ℕ, ◌+◌, ◌<◌, ◌≤◌, List, [], ◌∷◌, ◌++◌, ◌-◌, length, length-append, append_assoc, append-nil, take, drop, get_or, get_or_default, Bool, true, false, Option, Some, None, inl, inr, refl, sym, ◌∙◌, ap, arith, ◌⊎◌, All, if◌then◌else◌, cases_lt, take-append-le, take_all, drop_all, length-take, length-take-le, All-nil, All-cons, All-append, slice_get, filter, range_with_len, Order, is_unit_reference, units_requested, is_already_known, unit_references, all_unit_references, requested_from, unplaced_fault, placed_fault, added_segment, RoundsOutcome, after, rounds_from, AscendFrom, segments_in_slots, IsRead, Fault, Body, Record, Segment, UnitReference, MAX_REQUESTED}
+use Rattle.ps_reading.proofs.Vocabulary.{◌≡◌, ℕ, ◌+◌, ◌<◌, ◌≤◌, List, [], ◌∷◌, ◌++◌, ◌-◌, length, length-append, append_assoc, append-nil, take, drop, get_or, get_or_default, Bool, true, false, Option, Some, None, inl, inr, refl, sym, ◌∙◌, ap, arith, ◌⊎◌, All, if◌then◌else◌, cases_lt, take-append-le, take_all, drop_all, length-take, length-take-le, All-nil, All-cons, All-append, slice_get, filter, range_with_len, Order, is_unit_reference, units_requested, is_already_known, unit_references, all_unit_references, requested_from, unplaced_fault, placed_fault, added_from, added_segment, RoundsOutcome, after, rounds_from, AscendFrom, segments_in_slots, IsRead, Fault, Body, Record, Segment, UnitReference, MAX_REQUESTED}
 use Rattle.ps_linkinfo.specs.declared.record.Body.TheVariants.{UnitRef}
 use Rattle.ps_reading.proofs.NextItems.{drop_at}
 use Rattle.ps_reading.proofs.RecordCounts.{one_unit}
@@ -146,6 +146,24 @@ module _ (order : Order) (host : List ℕ) (libs : List (List ℕ)) (units : Lis
       ≡ after s (rounds_from order host libs units left (k + 1)
       (requested_from units queue (unit_references s.file s.slot 0 s.records)))
   round_adds slot left g s h e f = grind arith
+
+  -- the segment that a round adds, whatever its fault
+  pub no_name_brings : (left : List ℕ) → slice_get queue k ≡ None
+      → added_from order host libs units left k queue ≡ []
+  no_name_brings [] h = refl
+  no_name_brings (slot ∷ left) h = rw (h, added_from) refl
+
+  pub name_brings : (slot : ℕ) (left : List ℕ) (g : UnitReference) (s : Segment)
+      → slice_get queue k ≡ Some g → added_segment order host libs g slot ≡ Some s
+      → added_from order host libs units (slot ∷ left) k queue
+      ≡ s ∷ added_from order host libs units left (k + 1)
+      (requested_from units queue (unit_references s.file s.slot 0 s.records))
+  name_brings slot left g s h e = grind arith
+
+  pub none_brought : (slot : ℕ) (left : List ℕ) (g : UnitReference)
+      → slice_get queue k ≡ Some g → added_segment order host libs g slot ≡ None
+      → added_from order host libs units (slot ∷ left) k queue ≡ []
+  none_brought slot left g h e = grind arith
 
 -- segments that were added before the rounds that are left
 abbrev pub joined : List Segment → RoundsOutcome → RoundsOutcome

@@ -10,7 +10,7 @@ pub use Rattle.ps_linkinfo.specs.RecordCounts.{is_private_reference, is_public_r
 pub use Rattle.ps_linkinfo.specs.Records.{reading}
 pub use Rattle.ps_linkinfo.specs.declared.record.Body.{Body}
 pub use Rattle.ps_linkinfo.specs.declared.record.LinkRecord.{LinkRecord as Record}
-pub use Rattle.ps_reading.specs.Added.{AreAlreadyKnown, IsAlreadyKnown, RoundsOutcome, added_fault, added_segment, added_segments, after, all_unit_references, as_added, empty_slots, is_already_known, placed_fault, request_of, requested_from, requested_units, rounds_from, segment_at, segments, slot_name, unit_references, unplaced_fault}
+pub use Rattle.ps_reading.specs.Added.{AreAlreadyKnown, IsAlreadyKnown, RoundsOutcome, added_fault, added_from, added_segment, added_segments, after, all_unit_references, as_added, empty_slots, is_already_known, placed_fault, request_of, requested_from, requested_units, rounds_from, segment_at, segments, slot_name, unit_references, unplaced_fault}
 pub use Rattle.ps_reading.specs.Faults.{code_fault, entries_reason, entry_fault, is_role, libraries_fault, library_fault, library_reason, no_host_fault, request_fault, slot_reason, slots_fault, source_fault}
 pub use Rattle.ps_reading.specs.KnownSegments.{AreAlike, ArePlacedIn, AscendFrom, HasOneHost, HasRecordsAt, IsLike, IsRead, IsSound, has_records_at, is_in_slot, put_by_slot, segments_in_slots}
 pub use Rattle.ps_reading.specs.OfLink.{AreOfLink, IsOfFile, IsOfRound, IsOfSlot}

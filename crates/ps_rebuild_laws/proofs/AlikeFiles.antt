@@ -1,6 +1,6 @@
 -- Files that are read alike link to the same bytes, or have the same first fault.
 use Rattle.ps_words.specs.declared.fault.Reason.TheVariants as reason
-use Rattle.ps_rebuild_laws.proofs.Vocabulary.{AreFilesAlike, AreReadAlike, AreSameSegments, Bool, Both, Fault, HaveSameEntries, IsReadAlike, List, None, Option, Order, Reason, Result, Role, Some, [], and_left, arith, both, both_none, bytes_eq, enumerate_from, false, fault_if, find, first_fault, first_of, has_entry, host_fault, if◌then◌else◌, in_file, in_slot, is_host, is_unit, libraries_fault, library_fault, linking_fault, list_any, map, name_at, neither, no_host_fault, not, option_map, option_map_or, option_or, order_of, range_with_len, reading_fault, reading_rest, refl, result_err, result_ok, same_clipped, segments, segments_of, slots, slots_fault, sym, true, ℕ, ◌&&◌, ◌+◌, ◌∙◌, ◌∷◌, ◌≡◌}
+use Rattle.ps_rebuild_laws.proofs.Vocabulary.{AreFilesAlike, AreReadAlike, AreSameSegments, Bool, Both, Fault, HaveSameEntries, IsReadAlike, List, None, Option, Order, Reason, Result, Role, Some, [], and_left, arith, both, both_none, bytes_eq, enumerate_from, false, fault_if, find, first_fault, first_of, has_entry, host_fault, if◌then◌else◌, in_file, in_slot, is_host, is_unit, libraries_fault, library_fault, linking_fault, list_any, map, name_at, neither, no_host_fault, not, option_map, option_map_or, option_or, order_of, range_with_len, reading_fault, reading_rest, refl, result_err, result_ok, rounds_fine, same_clipped, segments, segments_of, slots, slots_fault, sources_fine, sym, true, ℕ, ◌&&◌, ◌+◌, ◌∙◌, ◌∷◌, ◌≡◌}
 use Rattle.ps_rebuild_laws.proofs.SameEntries.{IsSame, found_alike, same_search, unmoved}
 use Rattle.ps_rebuild_laws.proofs.SameSearches.{AreMoved, Change, IsFound, linking_moved, refiled, renewed, rest_moved, same_roles, segments_moved}
 use Rattle.ps_rebuild_laws.proofs.SameFile.{same_renewed}
@@ -101,8 +101,7 @@ module _ (host other : List ℕ) (libs others : List (List ℕ))
   -- 5. so the first fault of all is the same, and the segments but for these blocks
   segs : reading_fault host libs ≡ None
       → segments order other others ≡ map (renewed change) (segments order host libs)
-  unfolding reading_fault
-  segs none = segments_moved change all (grind (arith, both_none))
+  segs none = segments_moved change all (sources_fine host libs none) (rounds_fine host libs none)
 
   reading : option_or (host_fault other) (option_or (slots_fault order other)
       (option_or (no_host_fault order other) (option_or (libraries_fault order others)

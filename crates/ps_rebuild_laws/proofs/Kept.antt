@@ -91,7 +91,8 @@ module _ (host : List ℕ) (libs others : List (List ℕ)) (number : ℕ → ℕ
         } in
         let was = are_opened (library_reason order) 1 libs in
         let now = are_opened (library_reason order) 1 others in
-        let same = segments_moved change_of moved (grind (arith, both_none)) in
+        let same = segments_moved change_of moved (sources_fine host libs read)
+        (rounds_fine host libs read) in
         let rest = rest_moved change_of moved in
         let linking = linking_moved change_of (segments_of host libs) in
         (grind (arith, both_none, opened), same)

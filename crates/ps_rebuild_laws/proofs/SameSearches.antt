@@ -1,6 +1,6 @@
 -- Links of two hosts and their libraries in which each search finds what is read the same, where
 -- the number of each file may be another, and the block in which link information begins.
-use Rattle.ps_rebuild_laws.proofs.Vocabulary.{Bool, Both, Err, FIRST_ADDED, Fault, IsTurn, Known, List, MAX_ADDED, None, Ok, Option, Order, Reason, Record, Request, Result, Role, RoundsOutcome, SLOTS, Segment, Some, UnitReference, [], added_at, added_segment, added_segments, after, all_mapped, all_rounds, all_unit_references, any_mapped, ap, append-nil, append_assoc, arith, at_left, both, bytes_eq, chosen_file, chosen_library, clipped, code_fault, code_of, data_fault, definitions_fault, drop, drop_at, empty_slots, entries_reason, entry_at, false, file_at, filter, find, find_mapped, first_mapped, first_private_fault, host_records, if◌then◌else◌, in_record, in_slot, in_slots, information_block, information_of, is_empty, is_host, is_in_place, is_named, is_role, known_moved, known_of, length, length-append, library_file, linking_fault, map, map-append, name_at, needs_linking, neither, next_of, none_alike, none_at, option_and_then, option_map, option_map_or, option_or, or_moved, own_segment, own_units, owner_of, placed_fault, private_words, privates_fault, queue_of, range_with_len, reading, reading_rest, references_fault, references_fault_from, refl, request_by_slot, request_fault, request_of, requested_from, requested_units, result_ok, role_fault, role_of, round_fault, rounds, rounds_from, same_clipped, segment_at, segments, segments_before, slice_get, slice_get-map, slots, source_fault, source_of, sources_fault, sym, tables_fault, take, true, unit_references, unit_source, units_of, ℕ, ◌++◌, ◌+◌, ◌<◌, ◌==◌, ◌∙◌, ◌∷◌, ◌≡◌}
+use Rattle.ps_rebuild_laws.proofs.Vocabulary.{Bool, Both, Err, FIRST_ADDED, Fault, IsTurn, Known, List, MAX_ADDED, None, Ok, Option, Order, Reason, Record, Request, Result, Role, RoundsOutcome, SLOTS, Segment, Some, UnitReference, [], added_at, added_fault, added_segment, added_segments, after, all_mapped, all_rounds, all_unit_references, any_mapped, ap, append-nil, append_assoc, arith, at_left, both, bytes_eq, chosen_file, chosen_library, clipped, code_fault, code_of, data_fault, definitions_fault, drop, drop_at, empty_slots, entries_reason, entry_at, false, file_at, filter, find, find_mapped, first_mapped, first_private_fault, host_records, if◌then◌else◌, in_record, in_slot, in_slots, information_block, information_of, is_empty, is_host, is_in_place, is_named, is_role, known_moved, known_of, length, length-append, library_file, linking_fault, map, map-append, name_at, needs_linking, neither, next_of, none_alike, none_at, option_and_then, option_map, option_map_or, option_or, or_moved, own_segment, own_units, owner_of, placed_fault, private_words, privates_fault, queue_of, range_with_len, reading, reading_rest, references_fault, references_fault_from, refl, request_by_slot, request_fault, request_of, requested_from, requested_units, result_ok, role_fault, role_of, round_fault, rounds, rounds_added, rounds_from, same_clipped, segment_at, segments, segments_before, slice_get, slice_get-map, slots, source_fault, source_of, sources_fault, sym, tables_fault, take, true, unit_references, unit_source, units_of, ℕ, ◌++◌, ◌+◌, ◌<◌, ◌==◌, ◌∙◌, ◌∷◌, ◌≡◌}
 use Rattle.ps_codefile.specs.declared.entry.Role.TheVariants as role
 use Rattle.ps_reading.specs.declared.locations.RecordAt.{RecordAt}
 use Rattle.ps_words.specs.declared.fault.Reason.TheVariants as reason
@@ -249,26 +249,26 @@ module _ (c : Change) where
         (slice_get-map given_from (asked prefix) k ∙ ap (option_map given_from) none)))
         stops goes
       where
-        stops : (prefix : List Segment) (k : ℕ) (g : UnitReference) (slot : Option ℕ)
-            (f : Fault) → IsTurn c.order c.host c.libs prefix [] k g slot
+        stops : (prefix others : List Segment) (k : ℕ) (g : UnitReference) (slot : Option ℕ)
+            (f : Fault) → IsTurn c.order c.host c.libs prefix others k g slot
             → round_fault c.order c.host c.libs g slot ≡ Some f
             → Follows k (record { added = []; fault = Some f })
-        stops prefix k g None f turn e =
-            let missing = none_alike _ _ (of_round prefix [] k g None turn) in
+        stops prefix others k g None f turn e =
+            let missing = none_alike _ _ (of_round prefix others k g None turn) in
             grind (arith, turn, segments_before, drop_at, slice_get-map, no_slot_left)
-        stops prefix k g (Some slot) f turn e =
-            let fault = (placed g slot (of_round prefix [] k g (Some slot) turn)).0 in
+        stops prefix others k g (Some slot) f turn e =
+            let fault = (placed g slot (of_round prefix others k g (Some slot) turn)).0 in
             grind (arith, turn, segments_before, drop_at, slice_get-map, round_refused)
 
-        goes : (prefix : List Segment) (k : ℕ) (g : UnitReference) (slot : ℕ) (s : Segment)
-            (rest : RoundsOutcome)
-            → IsTurn c.order c.host c.libs prefix (s ∷ rest.added) k g (Some slot)
+        goes : (prefix others : List Segment) (k : ℕ) (g : UnitReference) (slot : ℕ)
+            (s : Segment) (rest : RoundsOutcome)
+            → IsTurn c.order c.host c.libs prefix (s ∷ others) k g (Some slot)
             → mine placed_fault g slot ≡ None → mine added_segment g slot ≡ Some s
             → Follows (k + 1) rest → Follows k (after s rest)
-        goes prefix k g slot s rest turn none there later =
-            let m = placed g slot (of_round prefix (s ∷ rest.added) k g (Some slot) turn) in
-            let next = segments_before c.order c.host c.libs (prefix ++ s ∷ []) rest.added (k + 1)
-            (turn.all ∙ sym (append_assoc prefix (s ∷ []) rest.added))
+        goes prefix others k g slot s rest turn none there later =
+            let m = placed g slot (of_round prefix (s ∷ others) k g (Some slot) turn) in
+            let next = segments_before c.order c.host c.libs (prefix ++ s ∷ []) others (k + 1)
+            (turn.all ∙ sym (append_assoc prefix (s ∷ []) others))
             (grind (arith, turn.many, length-append)) in
             let queue = requested_rest c.order c.host c.libs prefix (s ∷ []) in
             let given = given_by s.file s.slot 0 s.records in
@@ -343,21 +343,31 @@ module _ (c : Change) where
           rw (own_moved, (known_moved renewed own).1, same_empty, all_given own, queue)
           (rw (append-nil own) at (follows all.fits))
 
-      empty_moved : (slot : ℕ) → slot < SLOTS
-          → theirs added_at slot ≡ option_map renewed (mine added_at slot)
-      empty_moved slot inside = rw (← all.roles slot inside) (pick (is_role is_empty c.order
-          c.host slot) _ _ ((λ j. find (λ (s : Segment). s.slot == slot) (rounds_moved j).added)
-          ∙ find_mapped (λ (s : Segment). s.slot == slot) renewed (mine added_segments)))
-        where
-          pick : (b : Bool) (o p : Option Segment) → p ≡ option_map renewed o
-              → (if b then p else None) ≡ option_map renewed (if b then o else None)
-          pick b o p e = grind arith
+      module _ (ended : mine added_fault ≡ None) where
+        added_moved : theirs added_segments ≡ map renewed (mine added_segments)
+        added_moved =
+            let both = rounds_moved in
+            let fine : theirs added_fault ≡ None =
+            ap (λ (r : RoundsOutcome). r.fault) both ∙ ap refiled ended in
+            sym (rounds_added c.order c.other c.others fine)
+            ∙ ap (λ (r : RoundsOutcome). r.added) both
+            ∙ ap (map renewed) (rounds_added c.order c.host c.libs ended)
 
-      pub segments_moved : theirs segments ≡ map renewed (mine segments)
-      unfolding segments
-      segments_moved = all_mapped renewed (mine segment_at) (theirs segment_at) slots
-          (λ slot t. or_moved renewed (mine own_segment slot) _ _ _ (own_at slot (in_slots slot t))
-          (λ n. empty_moved slot (in_slots slot t)))
+        empty_moved : (slot : ℕ) → slot < SLOTS
+            → theirs added_at slot ≡ option_map renewed (mine added_at slot)
+        empty_moved slot inside = rw (← all.roles slot inside) (pick (is_role is_empty c.order
+            c.host slot) _ _ (ap (find (λ (s : Segment). s.slot == slot)) added_moved
+            ∙ find_mapped (λ (s : Segment). s.slot == slot) renewed (mine added_segments)))
+          where
+            pick : (b : Bool) (o p : Option Segment) → p ≡ option_map renewed o
+                → (if b then p else None) ≡ option_map renewed (if b then o else None)
+            pick b o p e = grind arith
+
+        pub segments_moved : theirs segments ≡ map renewed (mine segments)
+        unfolding segments
+        segments_moved = all_mapped renewed (mine segment_at) (theirs segment_at) slots
+            (λ slot t. or_moved renewed (mine own_segment slot) _ _ _
+            (own_at slot (in_slots slot t)) (λ n. empty_moved slot (in_slots slot t)))
 
     -- the faults of the sources and of the rounds
     pub rest_moved : theirs reading_rest ≡ refiled (mine reading_rest)

@@ -12,8 +12,7 @@ use Rattle.ps_words.specs.declared.fault.Reason.TheVariants as reason
 use Rattle.ps_resolve.specs.Standing.Sources.{NoneHas, EntryFault, CodeFault}
 
 -- 6. a unit that only a unit names
--- the name that is looked up in round k, where the rounds before it had no fault: each of them
--- added its segment
+-- the name that is looked up in round k, where each of the rounds before it added a segment
 abbrev pub IsRequested : Order → List ℕ → List (List ℕ) → ℕ → UnitReference → Type 0
 IsRequested order host libs k g = (k ≤ length (added_segments order host libs))
     × (slice_get (requested_units order host libs (take k (added_segments order host libs))) k

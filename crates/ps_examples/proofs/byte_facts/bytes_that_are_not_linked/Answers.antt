@@ -1,5 +1,5 @@
 use Rattle.ps_examples.proofs.Vocabulary.{◌≡◌, ℕ, ◌+◌, List, [], ◌∷◌, refl, sym, ap, ◌∙◌, arith, ltb-true, slice_index, host, library, blank_name, aux, count, state, count_reference, aux_reference, demo_segment, util_segment, pair, UnitRef, PublRef, PublDef, Eof, Segment}
-use Rattle.ps_resolve.specs.Added.{empty_slots, rounds, segments}
+use Rattle.ps_resolve.specs.Added.{added_segments, empty_slots, rounds, segments}
 use Rattle.ps_resolve.specs.Sources.{own_segments}
 use Rattle.ps_resolve.specs.Faults.{slots_fault, no_host_fault, libraries_fault, sources_fault, linking_fault, definitions_fault, privates_fault, data_fault, references_fault}
 use Rattle.ps_resolve.specs.AllFaults.{first_fault, reading_fault}
@@ -13,7 +13,7 @@ use Rattle.ps_examples.proofs.byte_facts.bytes_that_are_not_linked.Goals as goal
 pub returns : goal.returns
 unfolding first_fault reading_fault slots_fault no_host_fault libraries_fault sources_fault
     linking_fault definitions_fault privates_fault data_fault references_fault own_segments
-    empty_slots rounds segments
+    added_segments empty_slots rounds segments
 returns c =
     let of_pair = c.first_of_all.ensures.none host (library ∷ []) refl in
     let made = c.bytes_are_linked.ensures.made host (library ∷ []) of_pair in

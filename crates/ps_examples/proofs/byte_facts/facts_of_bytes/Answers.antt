@@ -1,6 +1,6 @@
 use Rattle.ps_examples.proofs.Vocabulary.{List, [], ◌∷◌, refl, arith, ltb-true, host, library, blank_name, count, demo_segment, aux_segment, PublDef, Eof, Segment}
 use Rattle.ps_resolve.specs.Sources.{own_segments}
-use Rattle.ps_resolve.specs.Added.{empty_slots, rounds, segments}
+use Rattle.ps_resolve.specs.Added.{added_segments, empty_slots, rounds, segments}
 use Rattle.ps_resolve.specs.Faults.{slots_fault, no_host_fault, libraries_fault, sources_fault, linking_fault, definitions_fault, privates_fault, data_fault, references_fault}
 use Rattle.ps_resolve.specs.AllFaults.{first_fault, reading_fault}
 use Rattle.ps_words.specs.declared.edit.Edit.{Edit}
@@ -10,7 +10,7 @@ use Rattle.ps_examples.proofs.byte_facts.facts_of_bytes.Goals as goal
 pub returns : goal.returns
 unfolding first_fault reading_fault slots_fault no_host_fault libraries_fault sources_fault
     linking_fault definitions_fault privates_fault data_fault references_fault own_segments
-    empty_slots rounds segments
+    added_segments empty_slots rounds segments
 returns c =
     let of_pair = c.first_of_all.ensures.none host (library ∷ []) refl in
     let made = c.bytes_are_linked.ensures.made host (library ∷ []) of_pair in

@@ -1,6 +1,6 @@
 use Rattle.ps_examples.proofs.Vocabulary.{ℕ, List, [], ◌∷◌, refl, arith, leb-true, ltb-true, host, library, host_with_tools, library_of_the_last, library_of_used, util_information, demo_segment, util_segment, AreOwn, AreRead, Little}
 use Rattle.ps_resolve.specs.Sources.{own_segments}
-use Rattle.ps_resolve.specs.Added.{empty_slots, rounds, segments}
+use Rattle.ps_resolve.specs.Added.{added_segments, empty_slots, rounds, segments}
 use Rattle.ps_resolve.specs.Faults.{slots_fault, no_host_fault, libraries_fault, sources_fault, linking_fault, definitions_fault, privates_fault, data_fault, references_fault}
 use Rattle.ps_resolve.specs.AllFaults.{first_fault, reading_fault}
 use Rattle.ps_examples.proofs.NotOrigins.{filled}
@@ -10,7 +10,7 @@ use Rattle.ps_examples.proofs.origins.origins_of_segments.Goals as goal
 pub returns : goal.returns
 unfolding first_fault reading_fault slots_fault no_host_fault libraries_fault sources_fault
     linking_fault definitions_fault privates_fault data_fault references_fault own_segments
-    empty_slots rounds segments
+    added_segments empty_slots rounds segments
 returns c =
     let law = c.segments_have_origins.ensures in
     let fine = c.first_of_all.ensures.none in

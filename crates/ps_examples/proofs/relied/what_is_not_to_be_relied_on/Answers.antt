@@ -4,13 +4,13 @@ use Rattle.ps_examples.proofs.Vocabulary.{◌≡◌, ℕ, List, [], Reason, Resu
 use Rattle.ps_resolve.specs.Faults.{slots_fault, no_host_fault, libraries_fault, sources_fault, linking_fault, definitions_fault, privates_fault, data_fault, references_fault}
 use Rattle.ps_examples.proofs.relied.what_is_not_to_be_relied_on.Goals as goal
 use Rattle.ps_linkfile.specs.LinkedFile.{dictionary, all_pairs}
-use Rattle.ps_resolve.specs.Added.{empty_slots, rounds, segments, slot_names}
+use Rattle.ps_resolve.specs.Added.{added_segments, empty_slots, rounds, segments, slot_names}
 use Rattle.ps_resolve.specs.AllFaults.{first_fault, reading_fault}
 use Rattle.ps_resolve.specs.Sources.{own_segments}
 
 pub returns : goal.returns
-unfolding own_segments empty_slots rounds segments slot_names dictionary all_pairs first_fault
-    reading_fault slots_fault no_host_fault libraries_fault sources_fault linking_fault
+unfolding own_segments added_segments empty_slots rounds segments slot_names dictionary all_pairs
+    first_fault reading_fault slots_fault no_host_fault libraries_fault sources_fault linking_fault
     definitions_fault privates_fault data_fault references_fault
 returns c = record {
   a_line_of_a_byte_that_stays = (0, _, refl, (refl, (_, refl, refl)));

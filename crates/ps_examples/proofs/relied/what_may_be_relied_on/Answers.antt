@@ -7,14 +7,14 @@ use Rattle.ps_examples.proofs.relied.what_may_be_relied_on.Goals as goal
 use Rattle.ps_linkfile.specs.LinkedFile.{LinkedFile, dictionary, all_pairs}
 use Rattle.ps_rebuild_laws.specs.Alike.{AreFilesAlike}
 use Rattle.ps_rebuild_laws.specs.SameSegments.{HaveSameHeads}
-use Rattle.ps_resolve.specs.Added.{empty_slots, rounds, segments, slot_names}
+use Rattle.ps_resolve.specs.Added.{added_segments, empty_slots, rounds, segments, slot_names}
 use Rattle.ps_resolve.specs.AllFaults.{first_fault, reading_fault}
 use Rattle.ps_resolve.specs.Sources.{own_segments}
 
 -- each is what a law says of links in which no fault applies
 pub returns : goal.returns
-unfolding own_segments empty_slots rounds segments slot_names dictionary all_pairs first_fault
-    reading_fault slots_fault no_host_fault libraries_fault sources_fault linking_fault
+unfolding own_segments added_segments empty_slots rounds segments slot_names dictionary all_pairs
+    first_fault reading_fault slots_fault no_host_fault libraries_fault sources_fault linking_fault
     definitions_fault privates_fault data_fault references_fault
 returns c =
     let there = c.linked_file_is_one.ensures.there in

@@ -3,12 +3,12 @@ use Rattle.std.specs.Fmt.{digits}
 use Rattle.ps_examples.specs.Expected.{linked_pair}
 use Rattle.ps_linkfile.specs.LinkedFile.{linked_file, dictionary, all_pairs}
 use Rattle.ps_linkfile.specs.ShowText.{show_of, slot_line, links_in, links_lines, unit_names}
-use Rattle.ps_resolve.specs.Added.{empty_slots, rounds, segments, slot_names}
+use Rattle.ps_resolve.specs.Added.{added_segments, empty_slots, segments, slot_names}
 use Rattle.ps_resolve.specs.Sources.{own_segments}
 use Rattle.ps_examples.proofs.texts.show_texts.Goals as goal
 
 linked : linked_file host (library ∷ []) ≡ linked_pair Little
-unfolding own_segments empty_slots rounds segments slot_names dictionary all_pairs
+unfolding own_segments added_segments empty_slots segments slot_names dictionary all_pairs
 linked = refl
 
 pub returns : goal.returns
