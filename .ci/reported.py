@@ -354,9 +354,14 @@ def quiet():
         (HOST, [unit_with(UNIT_LINKS, slot=9)]),
         (HOST, [text_library()]),
         (HOST, [changed(LIBRARY, (CODE + 22, b"\x09"))]),
-        # units without procedures, of four bytes and of as many as no procedure has
-        *((HOST, [short_unit(code)]) for code in (bytes(4), b"\1\0\2\0", b"\xd7" * 4 + b"\2\0", bytes(14), b"\xd7" * 12 + bytes(2))),
-        *((changed(linked_segment(TWO, (0, code + bytes(24))), (4 * 9 + 2, word(len(code)))), [LIBRARY]) for code in (bytes(4), b"\1\0\x09\0")),
+        # units without procedures, of four bytes and of as many as no procedure has; and codes of a
+        # single byte
+        *((HOST, [short_unit(code)])
+          for code in (bytes(4), b"\1\0\2\0", b"\xd7" * 4 + b"\2\0", bytes(14),
+                       b"\xd7" * 12 + bytes(2))),
+        *((changed(linked_segment(TWO, (0, code + bytes(24))), (4 * 9 + 2, word(len(code)))),
+           [LIBRARY])
+          for code in (bytes(4), b"\1\0\x09\0", b"\7", b"\0")),
         # old records after the end mark, and words and a name of it
         (HOST, [unit_with([COUNT, END, STATE, END])]),
         *((HOST, [changed(LIBRARY, (LINKS + at, new))])

@@ -13,10 +13,11 @@ use ps_filetype::only_byte;
 use ps_words::Order;
 use std::alloc::{AllocError, Allocator};
 
-/// The run of one byte that a code has, if it has one: it was not read, or never written.
+/// The run of one byte that a code has, if it has one: it was not read, or never written. A code of a
+/// single byte says nothing of that.
 pub(super) fn run_in(order: Order, kind: u16, code: &[u8]) -> Option<CodeFinding> {
     match only_byte(code) {
-        Some(_) if is_without_procedures(code) => None,
+        Some(_) if is_without_procedures(code) || code.len() == 1 => None,
         Some(byte) => Some(CodeFinding::OneByte { byte }),
         None => unread_run(order, kind, code),
     }
