@@ -40,8 +40,14 @@ const FOUND = [
   ],
   ["note: a: it may be a gzip file", 10],
   ["harmless: a: its last 2 bytes are 1A: it was padded, as by CP/M", 11],
-  ["note: a: bytes 512 to 1023 are there twice, one after the other: they may have been read twice", 12],
-  ["harmless: a, segment B, record 0: the unit defines NAME, which has no effect: only the host program defines variables", 31],
+  [
+    "note: a: bytes 512 to 1023 are there twice, one after the other: they may have been read twice",
+    12
+  ],
+  [
+    "harmless: a, segment B, record 0: the unit defines NAME, which has no effect: only the host program defines variables",
+    32
+  ],
 ];
 
 let count = 0;
@@ -83,7 +89,7 @@ for (const {id, term} of terms) {
   const [, words, weight] = /^(.*) \((\w+)\)$/s.exec(term.replace(/\s+/g, " "));
   same(anchors(`${weight}: a file: ${words}`), [[weight, id]]);
 }
-same(terms.length, 31);
+same(terms.length, 32);
 
 same(shownName("a\nb\u202ec\u200bd\"\\"), '"a\\nb\\u{202e}c\\u{200b}d\\"\\\\"');
 for (const hidden of ["2028", "2029", "34f", "115f", "180f", "206f", "3164", "fe0f", "fff9",

@@ -4,6 +4,8 @@ use Rattle.std.specs.Prelude.{ℕ, ◌/◌, ◌%◌, true, List, [], ◌∷◌, 
 use Rattle.std.specs.Fmt.{digit_glyph}
 use Rattle.ps_filetype.specs.Shown.{shown_name, slot_digits}
 use Rattle.ps_filetype.specs.TypeWords.{line_end_words, oddity_words, type_words}
+use Rattle.ps_warnings.specs.declared.counting.Counting.{Counting}
+use Rattle.ps_warnings.specs.declared.counting.Counting.TheVariants as count
 use Rattle.ps_warnings.specs.declared.finding.CodeFinding.{CodeFinding}
 use Rattle.ps_warnings.specs.declared.finding.CodeFinding.TheVariants as code
 use Rattle.ps_warnings.specs.declared.finding.DictionaryFinding.{DictionaryFinding}
@@ -117,6 +119,15 @@ procedure_text (procedure.OddData size) = codes "its data size of " ++ (decimal 
     ++ (codes " bytes is odd, and the program is entered or left before its code: "
     ++ codes "its table may be damaged"))
 
+-- how references are counted
+abbrev pub counting_words : Counting → List ℕ
+counting_words count.ByteEarlier = codes "from one byte earlier"
+counting_words count.ByteLater = codes "from one byte later"
+counting_words count.FromProcedure = codes "from the start of the procedure"
+counting_words count.InWords = codes "in words"
+counting_words count.FromEnd = codes "back from the end of the code"
+counting_words count.FromFile = codes "from block 0 of the file"
+
 unfoldable pub operand_text : OperandFinding → List ℕ
 operand_text (operand.ClearMark place) = codes "the operand at byte " ++ (decimal place
     ++ codes " may be damaged: its bit 7 is clear, and a compiler sets it")
@@ -125,6 +136,11 @@ operand_text (operand.NoReferences operands) = codes "it has no reference, and "
     ++ codes "its references may be lost"))
 operand_text (operand.ZeroMark name) = codes "its end mark is zeros, and a record of "
     ++ (shown_name name ++ codes " is behind it: records may be lost")
+operand_text (operand.OtherCount references operands counting counted) = decimal counted
+    ++ (codes " of its " ++ (decimal references
+    ++ (codes " references lead to operands if they are counted " ++ (counting_words counting
+    ++ (codes ", and " ++ (decimal operands ++ (codes " as pslink counts them: "
+    ++ codes "its compiler may count otherwise; see WARNINGS in pslink(1)")))))))
 
 -- 3. any finding
 unfoldable pub finding_text : Finding → List ℕ

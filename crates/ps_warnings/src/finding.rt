@@ -8,6 +8,7 @@ ghost use Rattle.ps_warnings.specs.FindingTexts.{byte_digits, code_text, diction
 ghost use Rattle.ps_warnings.specs.Found.{is_about_link};
 ghost use Rattle.ps_warnings.specs.Weights.{is_certain as is_certain_spec, weight_of};
 
+use crate::counting::Counting;
 use crate::weight::Weight;
 use ps_filetype::{FileType, LineEnds, Oddity, ShownName, ShownPath, ShownSlot};
 use ps_words::Name;
@@ -266,11 +267,25 @@ impl fmt::Display for ProcedureFinding {
 #[derive(Clone, Copy)]
 pub enum OperandFinding {
     /// A link sets the bit, and reads the operand without it. Compare two copies of the file.
-    ClearMark { place: usize },
+    ClearMark {
+        place: usize,
+    },
     /// Without references each such operand stays as it is, for another variable. Copy the file again.
-    NoReferences { operands: usize },
+    NoReferences {
+        operands: usize,
+    },
     /// The records before it may be lost, and a link stops at the zeros. Copy the file again.
-    ZeroMark { name: Name },
+    ZeroMark {
+        name: Name,
+    },
+    /// The compiler may count the places of its references otherwise, and the file be whole. Ask what
+    /// its compiler is: pslink cannot link such a file.
+    OtherCount {
+        references: usize,
+        operands: usize,
+        counting: Counting,
+        counted: usize,
+    },
 }
 
 impl fmt::Display for OperandFinding {
@@ -296,6 +311,17 @@ impl fmt::Display for OperandFinding {
                 write!(
                     f,
                     "its end mark is zeros, and a record of {name} is behind it: records may be lost"
+                )
+            }
+            OperandFinding::OtherCount {
+                references,
+                operands,
+                counting,
+                counted,
+            } => {
+                write!(
+                    f,
+                    "{counted} of its {references} references lead to operands if they are counted {counting}, and {operands} as pslink counts them: its compiler may count otherwise; see WARNINGS in pslink(1)"
                 )
             }
         }

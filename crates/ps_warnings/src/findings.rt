@@ -11,6 +11,7 @@ ghost use Rattle.ps_check_segments.specs.Paths.{host_order, paths_in};
 ghost use Rattle.ps_check_segments.specs.Seen.{host_records, seen};
 
 mod codes;
+mod counts;
 mod doubled;
 mod entries;
 mod extents;
@@ -23,6 +24,7 @@ mod procedures;
 mod records;
 
 use crate::finding::{Finding, FindingAt, Place, Unsure};
+pub use counts::add_other_counts;
 use ps_check_segments::{NamedFiles, ReadSegment, host_of, in_slot};
 use ps_linkinfo::LinkInformation;
 use ps_words::{Fault, Name};
