@@ -18,6 +18,8 @@ REMEDIES = re.compile(r"^\| (\d+) \|.*\| ([^|]*) \|$", re.M)
 SENTENCES = re.compile(r"^(\d+)\|T\{\n\\fB(\w+)\\fR: (.*?)\nT\}$", re.M | re.S)
 RECORD = re.compile(r"^  record \d+: [A-Z]+ (.*)$", re.M)
 SEGMENT = re.compile(r"^  segment (.*), of slot \d\d of the host$", re.M)
+# records that are not linked or not read: what the fault is about is their segment
+UNLINKED = 19, 21, 22, 23
 ROOM = 1 << 20
 SOME = 100  # generated sets
 CHECK, LIST, FINDINGS, WANTED, HAD, JSON = 3, 4, 6, 7, 8, 256
@@ -69,9 +71,10 @@ def shown(name):
     return bytes(byte if 32 <= byte < 127 else 63 for byte in name).decode().rstrip() or '""'
 
 
-def told(report):
-    """The name that a report tells of its fault: that of the record, or of the segment, or none."""
-    found = RECORD.search(report) or SEGMENT.search(report)
+def told(report, fault):
+    """The name that a report tells of this fault: that of the record, if it was read, or of the
+    segment, or none."""
+    found = fault not in UNLINKED and RECORD.search(report) or SEGMENT.search(report)
     return found and found[1]
 
 
@@ -105,8 +108,10 @@ def differences(library, room, host, libraries):
                "document and of what is found")
     elif verdict.name[8] != 0:
         yield f"the name {bytes(verdict.name)} is not closed"
-    elif verdict.fault and told(report.decode()) != name_to_tell(library, room, host, verdict):
-        yield f"fault {verdict.fault} has the name {bytes(verdict.name)}, and the report says {told(report.decode())}"
+    elif verdict.fault and (
+            told(report.decode(), verdict.fault) != name_to_tell(library, room, host, verdict)):
+        yield (f"fault {verdict.fault} has the name {bytes(verdict.name)}, and the report says "
+               f"{told(report.decode(), verdict.fault)}")
 
 
 def once(names):

@@ -11,6 +11,7 @@ mod orders;
 mod overview;
 mod passed_over;
 mod privates;
+mod record_head;
 mod records;
 mod references;
 mod sentences;
