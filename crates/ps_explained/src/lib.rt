@@ -16,6 +16,7 @@ mod records;
 mod references;
 mod sentences;
 mod slot_lines;
+mod unsupported;
 
 pub use cases::Case;
 pub use explain::Explanation;
@@ -24,3 +25,4 @@ pub use orders::ByteOrder;
 pub use overview::{Overview, overview_of};
 pub use sentences::{SENTENCE_LEN, meaning_of, remedy_of};
 pub use slot_lines::indent;
+pub use unsupported::{UnsupportedLines, UnsupportedRecord, unsupported_records};
