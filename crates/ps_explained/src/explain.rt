@@ -7,6 +7,7 @@ mod dictionary;
 mod privates;
 mod records;
 mod references;
+mod routines;
 
 use crate::cases::Case;
 use ps_filetype::{ShownName, ShownPath};

@@ -1,6 +1,7 @@
 //! What a fault is in these files, and what to do about it: the sentences of the fault, or others
 //! where the files say more.
 use crate::cases::Case;
+use crate::explain::routines::remedy_of_routine;
 use crate::sentences::{meaning_of, remedy_of};
 use ps_check_segments::NamedFiles;
 use ps_codefile::kinds::{FIRST_INTRINSIC, LAST_INTRINSIC, LINKED};
@@ -163,6 +164,10 @@ fn write_of_file<W: fmt::Write>(f: &mut Formatter<W>, text: &str, path: &str) ->
 fn remedy_in<'a>(case: &Case<'_, 'a>) -> Advice<'a> {
     if case.fault.reason != Reason::NoHost && !case.inputs.file_type(0).is_code() {
         return Advice::of_file(case.inputs, 0);
+    }
+    if let Some(text) = remedy_of_routine(case) {
+        let path = case.inputs.path(case.fault.file);
+        return Advice::Sentence { text, path };
     }
     let text = match case.fault.reason {
         Reason::ShortFile | Reason::NoOrder | Reason::OrderMismatch | Reason::NoHost => {
