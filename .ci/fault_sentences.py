@@ -14,7 +14,8 @@ AGAIN = "Copy the file again, or compile it again."
 BINARY = "Copy the file again, as binary."
 KEEP = "Keep one of them in the file."
 RENAME = "Rename one of the two, and compile the file again. A name has eight characters."
-NOT_OF_CODE = f"The link information does not belong to this code. {AGAIN}"
+OTHER = "If it is whole, its compiler's format may differ."
+NOT_OF_CODE = f"The link information does not belong to this code. {AGAIN} {OTHER}"
 SAME = "Compile the unit in the file and the host program against the same declarations."
 IN_RECORD = "the UNITREF in this record requests."
 
@@ -59,21 +60,22 @@ SENTENCES = {
     16: ("The file ends before the code does.", BINARY),
     17: ("The procedure dictionary or a procedure's table is outside the code, or the host program"
          " has no outer block.",
-         f"The code is damaged, as by a conversion of line ends or a lost block: {SEE}. {AGAIN}"),
+         f"The code is damaged, as by a conversion of line ends or a lost block: {SEE}. {AGAIN}"
+         f" {OTHER}"),
     18: ("A procedure of the segment is native code, which is not supported.",
          "Use the procedure as the compiler left it, in P-code. If it is P-code, the bytes of the"
          f" file are swapped: {SEE}."),
     19: ("The file ends before the link information does.",
          f"{BINARY} If it is whole, it was made without link information: compile it again."),
     20: ("The link record's type is none of II.0.",
-         "The link information is damaged, as by a lost, repeated or exchanged block, or of another"
-         f" release: {SEE}. {AGAIN}"),
+         "The link information is damaged, as by a lost, repeated or exchanged block:"
+         f" {SEE}. {AGAIN} {OTHER}"),
     21: ("The link record belongs to native code, which is not supported.",
          "Write the external procedure in Pascal, in a unit, and compile the file again."),
     22: ("The link record belongs to a separate procedure, which is not supported.",
          "Put the procedure into a unit, and compile the file again."),
     23: ("The operands of the reference record have a format that its type cannot have.",
-         f"The link information is damaged. {AGAIN}"),
+         f"The link information is damaged. {AGAIN} {OTHER}"),
     24: ("The host program defines the name twice.", RENAME),
     25: ("The segment has the private variable twice.", RENAME),
     26: ("The private variables end past word 32767 of the host program's data.",

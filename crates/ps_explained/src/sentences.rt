@@ -124,19 +124,19 @@ const REMEDIES: [&str; ROWS] = [
     // 16 Truncated
     "Copy the file again, as binary.",
     // 17 BadProcDict
-    "The code is damaged, as by a conversion of line ends or a lost block: see DAMAGED FILES in pslink(1). Copy the file again, or compile it again.",
+    "The code is damaged, as by a conversion of line ends or a lost block: see DAMAGED FILES in pslink(1). Copy the file again, or compile it again. If it is whole, its compiler's format may differ.",
     // 18 NativeProcedure
     "Use the procedure as the compiler left it, in P-code. If it is P-code, the bytes of the file are swapped: see DAMAGED FILES in pslink(1).",
     // 19 RecordsTruncated
     "Copy the file again, as binary. If it is whole, it was made without link information: compile it again.",
     // 20 UnknownRecord
-    "The link information is damaged, as by a lost, repeated or exchanged block, or of another release: see DAMAGED FILES in pslink(1). Copy the file again, or compile it again.",
+    "The link information is damaged, as by a lost, repeated or exchanged block: see DAMAGED FILES in pslink(1). Copy the file again, or compile it again. If it is whole, its compiler's format may differ.",
     // 21 NativeRecord
     "Write the external procedure in Pascal, in a unit, and compile the file again.",
     // 22 SeparateRecord
     "Put the procedure into a unit, and compile the file again.",
     // 23 BadFormat
-    "The link information is damaged. Copy the file again, or compile it again.",
+    "The link information is damaged. Copy the file again, or compile it again. If it is whole, its compiler's format may differ.",
     // 24 DoubledDefinition
     "Rename one of the two, and compile the file again. A name has eight characters.",
     // 25 DoubledPrivate
@@ -152,11 +152,11 @@ const REMEDIES: [&str; ROWS] = [
     // 30 MissingUnitRef
     "A unit for which the host has no slot is looked for in the libraries: see 13 and 35.",
     // 31 OutsideCode
-    "The link information does not belong to this code. Copy the file again, or compile it again.",
+    "The link information does not belong to this code. Copy the file again, or compile it again. If it is whole, its compiler's format may differ.",
     // 32 ReservedPlace
-    "The link information does not belong to this code. Copy the file again, or compile it again.",
+    "The link information does not belong to this code. Copy the file again, or compile it again. If it is whole, its compiler's format may differ.",
     // 33 Overlap
-    "The link information does not belong to this code. Copy the file again, or compile it again.",
+    "The link information does not belong to this code. Copy the file again, or compile it again. If it is whole, its compiler's format may differ.",
     // 34 OperandTooLarge
     "Make the host program's data before this variable smaller, and compile the program and the file again.",
     // 35 NoSlot
