@@ -1,5 +1,5 @@
 -- The last line of a report: it is no line of a segment, and no warning.
-use Rattle.std.proofs.Common.{◌≡◌, ◌∙◌, ◌+◌, ◌++◌, ◌∷◌, ◌==◌, ◌<◌, [], ℕ, Bool, List, Bor, true, false, append-nil, ap, arith, codes, drop, get_or, length, refl, subst, sym}
+use Rattle.std.proofs.Common.{◌≡◌, ◌∙◌, ◌+◌, ◌++◌, ◌∷◌, ◌==◌, ◌<◌, [], ℕ, Bool, List, Bor, true, false, append-nil, ap, arith, codes, drop, get_or, length, refl, sym}
 use Rattle.std.specs.Prelude.{if◌then◌else◌}
 use Rattle.std.proofs.lemmas.List.{append_assoc, drop_more}
 use Rattle.ps_resolve.specs.Sources.{contents}

@@ -1,11 +1,14 @@
 -- The last line of a report that has warnings or notes: which files are to be copied or compiled
 -- again, and which page says more.
-use Rattle.std.specs.Prelude.{ℕ, ◌==◌, ◌&&◌, if◌then◌else◌, Bool, true, false, List, [], ◌++◌, codes, length}
+use Rattle.std.specs.Prelude.{ℕ, ◌==◌, ◌&&◌, not, if◌then◌else◌, Bool, true, false, List, [], ◌++◌, codes, length}
 use Rattle.std.specs.List.{flat_map, list_any}
 use Rattle.std.specs.Str.{bytes_eq}
 use Rattle.ps_filetype.specs.Shown.{shown_path}
 use Rattle.ps_warnings.specs.Weights.{weight_of}
+use Rattle.ps_warnings.specs.declared.finding.Finding.{Finding}
+use Rattle.ps_warnings.specs.declared.finding.Finding.TheVariants as which
 use Rattle.ps_warnings.specs.declared.finding.FindingAt.{FindingAt}
+use Rattle.ps_warnings.specs.declared.finding.OperandFinding.TheVariants as operand
 use Rattle.ps_warnings.specs.declared.weight.Weight.{Weight}
 use Rattle.ps_warnings.specs.declared.weight.Weight.TheVariants.{Warning, Harmless, Note}
 use Rattle.ps_report.specs.FindingLines.{first_line}
@@ -21,9 +24,19 @@ asks Note = true
 abbrev pub asks_for : List ℕ → FindingAt → Bool
 asks_for path f = asks (weight_of f.finding) && bytes_eq f.place.path.now path
 
--- `library.code; `, of a file for which a finding asks
+-- a compiler may count references otherwise, and it is that of the file at this path: the file need
+-- not be copied or compiled again
+abbrev pub is_other_count : Finding → Bool
+is_other_count (which.Operand (operand.OtherCount references operands counting counted)) = true
+is_other_count other = false
+
+abbrev pub counts_otherwise : List ℕ → FindingAt → Bool
+counts_otherwise path f = is_other_count f.finding && bytes_eq f.place.path.now path
+
+-- `library.code; `, of a file for which a finding asks, unless its compiler may count otherwise
 unfoldable pub asked_words : List Said → List ℕ → List ℕ
-asked_words found path = if list_any (λ f. asks_for path f.at) found
+asked_words found path = if not (list_any (λ f. counts_otherwise path f.at) found)
+    && list_any (λ f. asks_for path f.at) found
     then shown_path path ++ codes "; " else []
 
 -- the files for which findings ask, in the order in which they are given

@@ -2,14 +2,14 @@
 ghost use Rattle.std.specs.Prelude.{◌≡◌, ◌++◌, IfOk, OnOk, codes, map, string_bytes};
 ghost use Rattle.std.specs.List.{list_any};
 ghost use Rattle.ps_check_segments.specs.Paths.{paths_in};
-ghost use Rattle.ps_report.specs.LastLine.{asked_paths, asked_words, asks as asks_spec, asks_for as asks_for_spec, last_line, line_of_paths};
+ghost use Rattle.ps_report.specs.LastLine.{asked_paths, asked_words, asks as asks_spec, asks_for as asks_for_spec, counts_otherwise as counts_otherwise_spec, is_other_count as is_other_count_spec, last_line, line_of_paths};
 ghost use Rattle.ps_report.specs.Reported.{said};
 
 use crate::finding::SaidFinding;
 use crate::finding_lines::first_line;
 use ps_check_segments::NamedFiles;
 use ps_filetype::ShownPath;
-use ps_warnings::{FindingAt, Weight};
+use ps_warnings::{Finding, FindingAt, OperandFinding, Weight};
 use std::alloc::{AllocError, Allocator};
 use std::fmt::Write as _;
 
@@ -30,6 +30,33 @@ pub(crate) fn asks_for(found: &FindingAt<'_>, path: &str) -> bool
     asks(found.finding.weight()) && found.place.path == path
 }
 
+/// The finding says that a compiler may count references otherwise.
+fn is_other_count(finding: Finding) -> bool
+    ensures { result ≡ is_other_count_spec finding }
+{
+    matches!(finding, Finding::Operand(OperandFinding::OtherCount { .. }))
+}
+
+/// The finding says that the compiler of the file at this path may count references otherwise.
+pub(crate) fn counts_otherwise(found: &FindingAt<'_>, path: &str) -> bool
+    ensures { result ≡ counts_otherwise_spec path.now found.now }
+{
+    is_other_count(found.finding) && found.place.path == path
+}
+
+/// A finding says that the compiler of the file at this path may count references otherwise.
+fn is_counted_otherwise<A: Allocator>(findings: &[SaidFinding<'_, A>], path: &str) -> bool
+    ensures { result
+        ≡ list_any (λ f. counts_otherwise_spec path.now f.at) (map said findings.now) }
+{
+    for finding in findings {
+        if counts_otherwise(&finding.at, path) {
+            return true;
+        }
+    }
+    false
+}
+
 /// A finding asks for the file at this path.
 fn is_asked_for<A: Allocator>(findings: &[SaidFinding<'_, A>], path: &str) -> bool
     ensures { result ≡ list_any (λ f. asks_for_spec path.now f.at) (map said findings.now) }
@@ -42,7 +69,8 @@ fn is_asked_for<A: Allocator>(findings: &[SaidFinding<'_, A>], path: &str) -> bo
     false
 }
 
-/// Adds the path, where a finding asks for the file there.
+/// Adds the path, where a finding asks for the file there, and none says that its compiler may count
+/// otherwise.
 #[tactic(auto, unfolding(crate::specs::LastLine::asked_words))]
 fn add_asked<A: Allocator>(
     text: &mut String<A>,
@@ -52,7 +80,7 @@ fn add_asked<A: Allocator>(
     ensures { OnOk result (string_bytes text.new
         ≡ string_bytes text.old ++ asked_words (map said findings.now) path.now) }
 {
-    if !is_asked_for(findings, path) {
+    if is_counted_otherwise(findings, path) || !is_asked_for(findings, path) {
         return Ok(());
     }
     let path = ShownPath(path);
