@@ -22,7 +22,8 @@ static const char pair[] =
     "slot 01 DEMO: the host program, from HOST entry 01, 18 bytes\n"
     "slot 07 UTIL: a unit that the host wants, from LIB1 entry 02, 24 bytes\n"
     "slots without a segment: 00 02 03 04 05 06 08 09 10 11 12 13 14 15\n"
-    "links: segments 2 private words 4 blocks 3\n";
+    "links: segments 2 private words 4 blocks 3\n"
+    "references of UTIL: 2 of 2 lead to operands, 1 of them to 80 00\n";
 static const char alone[] =
     "file 0 HOST: 1536 bytes, little-endian\n"
     "slot 01 DEMO: the host program, from HOST entry 01, 18 bytes\n"

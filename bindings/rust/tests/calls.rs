@@ -78,7 +78,10 @@ fn a_report_names_the_files_and_has_the_verdict() {
         .starts_with("file 0 HOST: 1536 bytes, little-endian\n"));
     assert!(report
         .text
-        .ends_with("\nlinks: segments 2 private words 4 blocks 3\n"));
+        .contains("\nlinks: segments 2 private words 4 blocks 3\n"));
+    assert!(report
+        .text
+        .ends_with("\nreferences of UTIL: 2 of 2 lead to operands, 1 of them to 80 00\n"));
     assert!(report.ok() && report.findings.is_empty());
     assert_eq!(report.verdict.map(numbers), Ok((2, 4, 3)));
     // Its private variable has two words, and the operand is the third.

@@ -47,17 +47,20 @@ pub struct Case<'c, 'a> {
     pub(crate) words: u64,
     /// A warning or a note is told of its file: the file may be damaged.
     pub(crate) is_suspect: bool,
+    /// A note says that the compiler of its file may count references otherwise.
+    pub(crate) is_counted_otherwise: bool,
 }
 
 impl<'c, 'a> Case<'c, 'a> {
     /// The case of this fault, of the segments of a reading, where a warning or a note is told of its
-    /// file or not.
+    /// file or not, and a note says that the file's compiler may count references otherwise, or not.
     pub fn new(
         inputs: &'c NamedFiles<'a>,
         reading: &'c Reading<'a>,
         list: &'c [ReadSegment<'a>],
         fault: Fault,
         is_suspect: bool,
+        is_counted_otherwise: bool,
     ) -> Self
         ensures inputs { result.inputs.now ≡ inputs.now }
         ensures list { result.list.now ≡ list.now }
@@ -78,6 +81,7 @@ impl<'c, 'a> Case<'c, 'a> {
             segment,
             words: u64::from(words.unwrap_or(u32::MAX)),
             is_suspect,
+            is_counted_otherwise,
         }
     }
 

@@ -163,6 +163,9 @@ const REMEDIES: [&str; ROWS] = [
     "Join two units into one, or take linked segments out of the host.",
 ];
 
+/// What a remedy ends with where the object format of a whole file may be that of another compiler.
+pub(crate) const OTHER_FORMAT: &str = " If it is whole, its compiler's format may differ.";
+
 /// The row of this number in a table; nothing past its end.
 fn row(table: &[&'static str], number: u8) -> &'static str
     ensures { result.now ≡ get_or (map (λ text. text.now) table.now) number [] }

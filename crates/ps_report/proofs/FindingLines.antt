@@ -1,6 +1,6 @@
 -- The lines of a report to which a line is added that is a warning's, or none's.
-use Rattle.std.proofs.Common.{◌≡◌, ◌∙◌, ◌+◌, ◌++◌, ◌∷◌, ◌==◌, ◌&&◌, ◌||◌, [], ℕ, List, Bool, true, false, not, cond, append-nil, length, ◌<◌, Bor, refl, sym, subst, ap, arith, get_or, codes, inl, inr}
-use Rattle.std.specs.Prelude.{if◌then◌else◌, Option, Some, None, IfSome}
+use Rattle.std.proofs.Common.{◌≡◌, ◌∙◌, ◌+◌, ◌++◌, ◌∷◌, ◌==◌, [], ℕ, List, Bool, true, false, not, cond, append-nil, length, ◌<◌, Bor, refl, sym, subst, ap, arith, get_or, codes, inl, inr}
+use Rattle.std.specs.Prelude.{Option, Some, None, IfSome}
 use Rattle.std.specs.List.{after_first, before_first, filter, flat_map, list_all, position_or_len}
 use Rattle.std.proofs.lemmas.Bool.{and_parts, cases_Bool, not-true, or_parts}
 use Rattle.std.proofs.lemmas.Bool.Decides.{nat_tests}
@@ -179,6 +179,33 @@ pub keeps_slot_lines : (old lines new : List ℕ) → new ≡ old ++ part_lines 
     → AddsSlotLines old (slot_lines lines) new
 unfolding part_lines slot_lines
 keeps_slot_lines old lines new is = rw is (adds_slots old (lines_of lines) (one_each lines))
+
+-- no line of an account is as that of a segment
+adds_account : (old line new : List ℕ) → one_line line ≡ true
+    → new ≡ old ++ part_line Account line → AddsSlotLines old [] new
+adds_account old line new one is = by (is_mistaken Account line) refl
+  where
+    by : (t : Bool) → is_mistaken Account line ≡ t → AddsSlotLines old [] new
+    by true e = adds_no_line old (32 ∷ 32 ∷ line) new one refl
+        (is ∙ ap (λ (l : List ℕ). old ++ l) (part_is Account line true e))
+    by false e = adds_no_line old line new one
+        (or_parts (is_told_line line) (is_slot_line line) e).1
+        (is ∙ ap (λ (l : List ℕ). old ++ l) (part_is Account line false e))
+
+adds_accounts : (old : List ℕ) (lines : List (List ℕ)) → list_all one_line lines ≡ true
+    → AddsSlotLines old [] (old ++ flat_map (part_line Account) lines)
+adds_accounts old [] h = ([], refl, λ rest. refl)
+adds_accounts old (line ∷ lines) h =
+    let here : List ℕ = old ++ part_line Account line in
+    let both = and_parts (one_line line) (list_all one_line lines) h in
+    rw (append_assoc old (part_line Account line) (flat_map (part_line Account) lines)) at
+    (adds_then_none old here (here ++ flat_map (part_line Account) lines) []
+    (adds_account old line here both.0 refl) (adds_accounts here lines both.1))
+
+pub adds_no_slot : (old lines new : List ℕ) → new ≡ old ++ part_lines Account lines
+    → AddsSlotLines old [] new
+unfolding part_lines
+adds_no_slot old lines new is = rw is (adds_accounts old (lines_of lines) (one_each lines))
 
 -- the line of a finding
 one_word : (w : Weight) → one_line (weight_word w) ≡ true

@@ -1,5 +1,5 @@
 -- A text that is put together is that of a report.
-use Rattle.std.proofs.Common.{◌≡◌, ◌++◌, [], ℕ, List}
+use Rattle.std.proofs.Common.{◌≡◌, ◌++◌, [], ℕ, List, None}
 use Rattle.ps_resolve.specs.Standing.{NoneStands}
 use Rattle.ps_check_segments.specs.SeenSegments.{seen_segments}
 use Rattle.ps_explained.specs.SegmentLines.{segment_lines}
@@ -10,7 +10,7 @@ use Rattle.ps_warnings.specs.WarnedFiles.{AreInOrder, AreSaid}
 use Rattle.ps_warnings.proofs.HasWarned.{warned_said}
 use Rattle.ps_report.specs.Reported.{ArePlaced, AreWorded, Reported, findings_in, warning_count}
 use Rattle.ps_report.specs.Reports.{AreSections, IsReport, Sections, front_of}
-use Rattle.ps_report.specs.Verdicts.{IsVerdict, verdict_name}
+use Rattle.ps_report.specs.Verdicts.{IsVerdict, fault_of, verdict_name}
 use Rattle.ps_report.specs.FindingLines.{AddsWarnings, finding_lines}
 use Rattle.ps_report.specs.LastLine.{last_line}
 use Rattle.ps_report.proofs.Findings.{warned_about}
@@ -33,8 +33,9 @@ pub is_report : (paths : List (List ℕ)) (host : List ℕ) (libs : List (List �
     → IsVerdict host libs r.verdict → r.name ≡ verdict_name host libs r.verdict
     → AreSaid paths host libs (seen_segments host libs) (about_link_in (findings_in r.findings))
     → AreInOrder paths host libs (seen_segments host libs) (about_link_in (findings_in r.findings))
-    → ArePlaced r.findings → AreWorded r.findings → IsReport paths host libs r
-is_report paths host libs r front is text right name said ordered placed worded =
+    → ArePlaced r.findings → AreWorded r.findings
+    → (fault_of r.verdict ≡ None → r.unsupported ≡ []) → IsReport paths host libs r
+is_report paths host libs r front is text right name said ordered placed worded supported =
     let lines = finding_lines r.findings ++ last_line paths r.findings in
     let whole : r.text ≡ front_of r.verdict is.sections ++ lines = rw is.parts at text in
     let added = adds_last_lines paths front r.findings in record {
@@ -51,5 +52,6 @@ is_report paths host libs r front is text right name said ordered placed worded 
           (warned_said paths host libs (seen_segments host libs) _ said);
       placed = placed;
       worded = worded;
+      supported = supported;
       counted = counted r.text front (warning_count r.findings) is.warnings (rw text added.0);
     }

@@ -17,6 +17,11 @@ four a b c d e =
     ∙ ap (λ (t : List ℕ). a ++ t) (append_assoc b (c ++ d) e
     ∙ ap (λ (t : List ℕ). b ++ t) (append_assoc c d e))
 
+pub five : (a b c d e f : List ℕ)
+    → (a ++ (b ++ (c ++ (d ++ e)))) ++ f ≡ a ++ (b ++ (c ++ (d ++ (e ++ f))))
+five a b c d e f = four a b c (d ++ e) f
+    ∙ ap (λ (t : List ℕ). a ++ (b ++ (c ++ t))) (append_assoc d e f)
+
 -- the parts, one after another
 pub parts_are : (verdict : Verdict) (files segments explanation lists : List ℕ)
     (empty first second told explained whole : List ℕ) → empty ≡ []
@@ -106,7 +111,8 @@ told_in paths file files verdict s found text are is =
     let first = part_lines Segments s.files in
     let second = part_lines Segments s.segments in
     let line = verdict_line verdict in
-    let rest = part_lines Account s.explanation ++ part_lines Account s.lists in
+    let rest = part_lines Account s.explanation
+    ++ (part_lines Account s.lists ++ part_lines Account s.references) in
     let ended = ended_files paths file files s.files s.segments are in
     let joined : (first ++ (second ++ (line ++ rest))) ++ found
     ≡ (first ++ second) ++ (line ++ (rest ++ found)) =

@@ -1,4 +1,5 @@
 pub mod Verdicts
+pub mod UnsupportedJson
 pub mod ReportJson
 pub mod Lists
 pub mod Reported

@@ -1,11 +1,13 @@
--- What a report says, as values: the verdict, the name of what its fault is about, the findings, and
--- the text.
+-- What a report says, as values: the verdict, the name of what its fault is about, the findings, the
+-- records that are not linked, how references lead to operands, and the text.
 use Rattle.std.specs.Prelude.{◌≡◌, ℕ, Bool, List, Option, length, map, string_bytes}
 use Rattle.std.specs.List.{filter}
 use Rattle.ps_warnings.specs.declared.finding.FindingAt.{FindingAt}
 use Rattle.ps_warnings.specs.FindingTexts.{finding_text}
 use Rattle.ps_warnings.specs.Places.{place_text}
 use Rattle.ps_warnings.specs.Weights.{is_certain}
+use Rattle.ps_warnings.specs.declared.references.SegmentReferences.{SegmentReferences}
+use Rattle.ps_explained.specs.declared.unsupported.UnsupportedRecord.{UnsupportedRecord}
 use Rattle.ps_report.specs.declared.finding.SaidFinding.{SaidFinding}
 use Rattle.ps_report.specs.declared.report.Report.{Report}
 use Rattle.ps_report.specs.declared.verdict.Verdict.{Verdict}
@@ -20,6 +22,8 @@ pub record Reported : Type 0 where
   pub verdict : Verdict
   pub name : Option (List ℕ)
   pub findings : List Said
+  pub unsupported : List UnsupportedRecord
+  pub references : List SegmentReferences
   pub text : List ℕ
 
 -- the value of a finding with its words, and that of a report
@@ -31,6 +35,8 @@ reported r = record {
   verdict = r.verdict;
   name = r.name;
   findings = map said r.findings.items;
+  unsupported = r.unsupported.items;
+  references = r.references.items;
   text = string_bytes r.text;
 }
 

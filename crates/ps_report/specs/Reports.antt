@@ -49,6 +49,7 @@ pub record Sections : Type 0 where
   pub segments : List ℕ
   pub explanation : List ℕ
   pub lists : List ℕ
+  pub references : List ℕ
 
 -- The sections of the report of these files, with this verdict.
 pub record AreSections (paths : List (List ℕ)) (host : List ℕ) (libs : List (List ℕ))
@@ -76,7 +77,7 @@ pub record AreSections (paths : List (List ℕ)) (host : List ℕ) (libs : List 
 abbrev pub front_of : Verdict → Sections → List ℕ
 front_of verdict s = part_lines part.Segments s.files ++ (part_lines part.Segments s.segments
     ++ (verdict_line verdict ++ (part_lines part.Account s.explanation
-    ++ part_lines part.Account s.lists)))
+    ++ (part_lines part.Account s.lists ++ part_lines part.Account s.references))))
 
 -- The report of these files.
 pub record IsReport (paths : List (List ℕ)) (host : List ℕ) (libs : List (List ℕ))
@@ -105,6 +106,8 @@ pub record IsReport (paths : List (List ℕ)) (host : List ℕ) (libs : List (Li
   pub placed : ArePlaced r.findings
   -- each finding is said in the words that are its own
   pub worded : AreWorded r.findings
+  -- where the files are linked, there is no record that is not
+  pub supported : fault_of r.verdict ≡ None → r.unsupported ≡ []
   -- so many lines of the text begin with `warning: ` as there are warnings
   pub counted : warnings_in r.text ≡ warning_count r.findings
 

@@ -15,14 +15,19 @@ ghost use Rattle.ps_words.specs.declared.fault.Fault.{Fault as Why};
 ghost use Rattle.ps_report.specs.Reports.{told_of_host, told_segments};
 ghost use Rattle.ps_report.specs.Verdicts.{fault_of, verdict_name as verdict_name_spec};
 
-use crate::last_line::asks_for;
+use crate::last_line::{asks_for, counts_otherwise};
 use crate::names::verdict_name;
 use crate::verdict::Verdict;
 use ps_check_segments::{NamedFiles, ReadSegment, segments_of};
-use ps_explained::{Case, Explanation, Overview, overview_of};
+use ps_explained::{
+    Case, Explanation, Overview, UnsupportedLines, UnsupportedRecord, lines_of_references,
+    overview_of, unsupported_records,
+};
 use ps_filetype::is_code_type;
 use ps_resolve::Reading;
-use ps_warnings::{FindingAt, Findings, findings_of};
+use ps_warnings::{
+    FindingAt, Findings, SegmentReferences, add_other_counts, findings_of, references_of,
+};
 use ps_words::{Fault, Name};
 use std::alloc::{AllocError, Allocator};
 use std::fmt::Write as _;
@@ -37,8 +42,14 @@ pub(crate) struct Inspection<'a, A: Allocator> {
     /// What the fault is in these files, and what to do about it, in lines; empty where there is
     /// none.
     pub explanation: String<A>,
+    /// The records that are not linked; none where there is no fault.
+    pub unsupported: Vec<UnsupportedRecord<'a>, A>,
     /// What else is found, and is no fault.
     pub findings: Findings<'a, A>,
+    /// How the references of each segment lead to operands.
+    pub references: Vec<SegmentReferences<'a>, A>,
+    /// The lines that say so.
+    pub reference_lines: String<A>,
 }
 
 /// What is found in a host and its libraries, which were read, and of which this is the verdict.
@@ -75,6 +86,8 @@ pub(crate) fn inspect<'a, A: Allocator + Copy>(
         ≡ verdict_name_spec files.now.host.now (contents files.now.libs.now) verdict) }
     ensures explanation { IfOk result (λ found. fault_of verdict ≡ None
         → string_bytes found.explanation ≡ []) }
+    ensures unsupported { IfOk result (λ found. fault_of verdict ≡ None
+        → found.unsupported.items ≡ []) }
     ensures said { IfOk result (λ found. AreSaid (paths_in files.now) files.now.host.now
         (contents files.now.libs.now)
         (seen_segments files.now.host.now (contents files.now.libs.now))
@@ -89,14 +102,29 @@ pub(crate) fn inspect<'a, A: Allocator + Copy>(
     let list = segments_of(alloc, files, reading)?;
     let told = told_segments(files, reading, list.as_slice());
     let overview = overview_of(alloc, files, told)?;
-    let findings = findings_of(alloc, files, list.as_slice(), fault)?;
-    let is_suspect = is_suspect(files, findings.list.as_slice(), fault);
-    let explanation = explanation_of(alloc, files, reading, list.as_slice(), fault, is_suspect)?;
+    let mut findings = findings_of(alloc, files, list.as_slice(), fault)?;
+    let references = references_of(alloc, files, told)?;
+    add_other_counts(&mut findings, references.as_slice())?;
+    let found = findings.list.as_slice();
+    let unsupported = unsupported_after(alloc, files, told, fault)?;
+    let explanation = explanation_of(
+        alloc,
+        files,
+        reading,
+        list.as_slice(),
+        fault,
+        found,
+        unsupported.as_slice(),
+    )?;
+    let reference_lines = lines_of_references(alloc, references.as_slice())?;
     Ok(Inspection {
         overview,
         name,
         explanation,
+        unsupported,
         findings,
+        references,
+        reference_lines,
     })
 }
 
@@ -129,32 +157,44 @@ fn told_after_fault<'l, 'a>(
     if is_code_type(files.host) { list } else { &[] }
 }
 
-/// A warning or a note is told of the file of the fault.
-fn is_suspect(files: &NamedFiles<'_>, findings: &[FindingAt<'_>], fault: Option<Fault>) -> bool {
-    match fault {
-        Some(fault) => {
-            let path = files.path(fault.file);
-            findings.iter().any(|found| asks_for(found, path))
-        }
-        None => false,
-    }
-}
-
-/// What the fault is in these files, and what to do about it, in lines; empty where there is none.
+/// What the fault is in these files, and what to do about it, and each record that is not linked, in
+/// lines; empty where there is no fault. A file of which a finding asks something may be damaged,
+/// unless its compiler may count otherwise.
 fn explanation_of<'a, A: Allocator>(
     alloc: A,
     files: &NamedFiles<'a>,
     reading: &Reading<'a>,
     list: &[ReadSegment<'a>],
     fault: Option<Fault>,
-    is_suspect: bool,
+    findings: &[FindingAt<'_>],
+    unsupported: &[UnsupportedRecord<'a>],
 ) -> Result<String<A>, AllocError>
     ensures { IfOk result (λ text. fault ≡ None → string_bytes text ≡ []) }
 {
     let mut text = String::new(alloc);
     if let Some(fault) = fault {
-        let explanation = Explanation(Case::new(files, reading, list, fault, is_suspect));
-        write!(text, "{explanation}")?;
+        let path = files.path(fault.file);
+        let is_counted = findings.iter().any(|found| counts_otherwise(found, path));
+        let is_suspect = !is_counted && findings.iter().any(|found| asks_for(found, path));
+        let case = Case::new(files, reading, list, fault, is_suspect, is_counted);
+        let explanation = Explanation(case);
+        let lines = UnsupportedLines(unsupported);
+        write!(text, "{explanation}{lines}")?;
     }
     Ok(text)
+}
+
+/// The records of these segments that are not linked; none where there is no fault.
+fn unsupported_after<'a, A: Allocator + Copy>(
+    alloc: A,
+    files: &NamedFiles<'a>,
+    list: &[ReadSegment<'a>],
+    fault: Option<Fault>,
+) -> Result<Vec<UnsupportedRecord<'a>, A>, AllocError>
+    ensures { IfOk result (λ found. fault ≡ None → found.items ≡ []) }
+{
+    match fault {
+        Some(_) => unsupported_records(alloc, files, list),
+        None => Ok(Vec::new(alloc)),
+    }
 }

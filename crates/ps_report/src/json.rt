@@ -6,6 +6,8 @@ ghost use Rattle.ps_report.specs.Reported.{reported, said};
 ghost use Rattle.ps_report.specs.declared.verdict.Verdict.TheVariants.{Links};
 
 use crate::finding::SaidFinding;
+use crate::json_unsupported::add_unsupported;
+use crate::reference_json::add_references;
 use crate::report::Report;
 use crate::verdict::Verdict;
 use ps_linkfile::Summary;
@@ -95,6 +97,9 @@ pub(crate) fn add_report<S: TextWriter, A: Allocator>(text: &mut S, report: &Rep
     add_verdict(text, report.verdict, report.name);
     text.add(b",");
     add_list(text, report.findings.as_slice());
+    text.add(b",");
+    add_unsupported(text, report.unsupported.as_slice());
+    add_references(text, report.references.as_slice());
     text.add(b",\"report\":\"");
     add_json_text(text, report.text.as_str());
     text.add(b"\"}\n");

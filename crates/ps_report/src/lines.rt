@@ -12,7 +12,7 @@ use std::fmt::Write as _;
 pub(crate) enum Part {
     /// The files and the segments: lines of these begin with `slot `.
     Segments,
-    /// The explanation, and the lists of files.
+    /// The explanation, the lists of files, and how references lead to operands.
     Account,
 }
 

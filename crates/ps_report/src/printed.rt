@@ -12,7 +12,8 @@ use std::alloc::Allocator;
 ///
 /// The document has whether the files are linked, with the summary or with the fault, its parts and
 /// the name of what it is about; the findings, each with its weight, the path, the segment and the
-/// record where it is, and what it is; and the text. Source: RFC 8259.
+/// record where it is, and what it is; how the references of each segment lead to operands; and the
+/// text. Source: RFC 8259.
 #[derive(Drop)]
 pub struct PrintedReport<'r, 'a, A: Allocator> {
     pub form: Form,

@@ -19,8 +19,10 @@ use crate::printed::PrintedFindings;
 use crate::verdict::{Verdict, verdict_of};
 use crate::without_host::lists_without_host;
 use ps_check_segments::NamedFiles;
+use ps_explained::UnsupportedRecord;
 use ps_laws::first_of_all;
 use ps_resolve::{Reading, read};
+use ps_warnings::SegmentReferences;
 use ps_words::Name;
 use ps_writing::Form;
 use std::alloc::{AllocError, Allocator};
@@ -35,8 +37,14 @@ pub struct Report<'a, A: Allocator> {
     pub name: Option<Name>,
     /// What else is found, and is no fault, in its order.
     pub findings: Vec<SaidFinding<'a, A>, A>,
+    /// The records that are not linked, in their order; none where the files are linked.
+    pub unsupported: Vec<UnsupportedRecord<'a>, A>,
+    /// How the references of each segment of the link lead to operands for variables of the program,
+    /// in the order of the segments.
+    pub references: Vec<SegmentReferences<'a>, A>,
     /// The whole text, for a person: the files, the segments, the line of the verdict, what it
-    /// means, where no file is a host the list of each, a line of each finding, and what to do.
+    /// means, where no file is a host the list of each, how the references of each segment lead to
+    /// operands, a line of each finding, and what to do.
     pub text: String<A>,
 }
 
@@ -126,14 +134,23 @@ fn check_reading<'a, A: Allocator + Copy>(
         segments: inspection.overview.segments.as_str(),
         explanation: inspection.explanation.as_str(),
         lists: lists.as_str(),
+        references: inspection.reference_lines.as_str(),
     };
     let front = with_verdict(alloc, verdict, parts)?;
-    let Inspection { name, findings, .. } = inspection;
+    let Inspection {
+        name,
+        unsupported,
+        findings,
+        references,
+        ..
+    } = inspection;
     let findings = said_findings(alloc, findings.list.as_slice())?;
     let mut report = Report {
         verdict,
         name,
         findings,
+        unsupported,
+        references,
         text: front,
     };
     let lines = lines_of_findings(alloc, &report, files)?;
@@ -164,6 +181,7 @@ struct Sections<'t> {
     segments: &'t str,
     explanation: &'t str,
     lists: &'t str,
+    references: &'t str,
 }
 
 /// Adds the line of the verdict.
@@ -197,6 +215,7 @@ fn with_verdict<A: Allocator>(
       segments = parts.entry.segments.now;
       explanation = parts.entry.explanation.now;
       lists = parts.entry.lists.now;
+      references = parts.entry.references.now;
     })) }
     ensures warnings { IfOk result (λ text. AddsWarnings [] 0 (string_bytes text)) }
     ensures lines { IfOk result (λ text. slot_lines parts.entry.files.now ≡ []
@@ -209,5 +228,6 @@ fn with_verdict<A: Allocator>(
     add_verdict(&mut text, verdict)?;
     add_lines(&mut text, Part::Account, parts.explanation)?;
     add_lines(&mut text, Part::Account, parts.lists)?;
+    add_lines(&mut text, Part::Account, parts.references)?;
     Ok(text)
 }

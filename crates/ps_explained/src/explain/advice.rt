@@ -2,7 +2,7 @@
 //! where the files say more.
 use crate::cases::Case;
 use crate::explain::routines::remedy_of_routine;
-use crate::sentences::{meaning_of, remedy_of};
+use crate::sentences::{OTHER_FORMAT, meaning_of, remedy_of};
 use ps_check_segments::NamedFiles;
 use ps_codefile::kinds::{FIRST_INTRINSIC, LAST_INTRINSIC, LINKED};
 use ps_filetype::{
@@ -181,10 +181,24 @@ fn remedy_in<'a>(case: &Case<'_, 'a>) -> Advice<'a> {
             "Copy the file again, as binary, or compile it again. If it is whole, make the host program's data before this variable smaller.",
         Reason::NativeRecord if case.is_suspect =>
             "Copy the file again, as binary, or compile it again. If it is whole, write the external procedure in Pascal, in a unit.",
-        reason => remedy_of(reason.number()),
+        reason => remedy_of_format(case, reason),
     };
     let path = case.inputs.path(case.fault.file);
     Advice::Sentence { text, path }
+}
+
+/// What to do about a fault that damage makes, or another compiler: only of the compiler where a note
+/// says how that may count references, and only of damage where there is another sign of it.
+fn remedy_of_format(case: &Case<'_, '_>, reason: Reason) -> &'static str {
+    let remedy = remedy_of(reason.number());
+    match reason {
+        Reason::OutsideCode | Reason::ReservedPlace | Reason::Overlap
+            if case.is_counted_otherwise => {
+            "The compiler of the file may count its references otherwise, as the note says. pslink links no such file."
+        }
+        _ if case.is_suspect => remedy.strip_suffix(OTHER_FORMAT).unwrap_or(remedy),
+        _ => remedy,
+    }
 }
 
 /// What to do about a procedure of native code, as damaged code may be read.

@@ -17,12 +17,16 @@ slot 01 DEMO: the host program, from memory-host entry 01, 18 bytes
 slot 07 UTIL: a unit that the host wants, from memory-library entry 02, 24 bytes
 slots without a segment: 00 02 03 04 05 06 08 09 10 11 12 13 14 15
 links: segments 2 private words 4 blocks 3
+references of UTIL: 2 of 2 lead to operands, 1 of them to 80 00
 ";
 
 /// The report as JSON.
 pub const JSON_REPORT: &str =
     "{\"links\":true,\"segments\":2,\"private_words\":4,\"blocks\":3,\"fault\":null,\"findings\":[
-],\"report\":\"file 0 memory-host: 1536 bytes, little-endian\\nfile 1 memory-library: 1536 bytes, little-endian\\nslot 01 DEMO: the host program, from memory-host entry 01, 18 bytes\\nslot 07 UTIL: a unit that the host wants, from memory-library entry 02, 24 bytes\\nslots without a segment: 00 02 03 04 05 06 08 09 10 11 12 13 14 15\\nlinks: segments 2 private words 4 blocks 3\\n\"}
+],\"unsupported\":[
+],\"references\":[
+{\"path\":\"memory-library\",\"segment\":{\"name\":\"UTIL    \",\"name_hex\":\"5554494C20202020\"},\"references\":2,\"operands\":2,\"zeros\":1}
+],\"report\":\"file 0 memory-host: 1536 bytes, little-endian\\nfile 1 memory-library: 1536 bytes, little-endian\\nslot 01 DEMO: the host program, from memory-host entry 01, 18 bytes\\nslot 07 UTIL: a unit that the host wants, from memory-library entry 02, 24 bytes\\nslots without a segment: 00 02 03 04 05 06 08 09 10 11 12 13 14 15\\nlinks: segments 2 private words 4 blocks 3\\nreferences of UTIL: 2 of 2 lead to operands, 1 of them to 80 00\\n\"}
 ";
 
 /// Where a link writes in these tests. The other commands write nothing there.

@@ -16,6 +16,7 @@ slot 01 DEMO: the host program, from prints-in-place entry 01, 18 bytes
 slot 07 UTIL: a unit in the host file, from prints-in-place entry 07, 24 bytes
 slots without a segment: 00 02 03 04 05 06 08 09 10 11 12 13 14 15
 links: segments 2 private words 0 blocks 3
+references of UTIL: 1 of 1 lead to operands, 1 of them to 80 00
 ";
 
 static STUCK: &str = "\

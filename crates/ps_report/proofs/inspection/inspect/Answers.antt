@@ -1,4 +1,4 @@
-use Rattle.std.proofs.Common.{◌≡◌, ◌∙◌, List, ℕ, None, Some, ap, map, refl, rules}
+use Rattle.std.proofs.Common.{◌≡◌, ◌∙◌, List, ℕ, None, Some, ap, append-nil, map, refl, rules, subst, sym}
 use Rattle.std.specs.Prelude.{Option}
 use Rattle.ps_words.specs.declared.fault.Fault.{Fault}
 use Rattle.ps_check_segments.specs.Paths.{paths_in}
@@ -10,6 +10,8 @@ use Rattle.ps_resolve.specs.Sources.{contents}
 use Rattle.ps_explained.specs.OverviewText.{overview_text}
 use Rattle.ps_explained.specs.SegmentLines.{has_unread, read_lines}
 use Rattle.ps_explained.proofs.ReadLines.{read_lines_are}
+use Rattle.ps_warnings.specs.Found.{Stated, about_link}
+use Rattle.ps_warnings.specs.WarnedFiles.{AreInOrder, AreSaid}
 use Rattle.ps_report.specs.Reports.{told_after, told_of_host}
 use Rattle.ps_report.proofs.inspection.inspect.Goals as goal
 
@@ -34,6 +36,7 @@ returns g c =
     c.told_segments-told.ensures.all (read ∙ none) ∙ seen_are in
     let refused = λ (why : Fault) (is : reading_fault host libs ≡ Some why).
     c.told_segments-told.ensures.refused why (read ∙ is) ∙ ap (told_of_host host) seen_are in
+    let same = sym (c.in_ok-add_other_counts.ensures.all ∙ append-nil _) in
     let lines = λ (l : List Seen). read_lines paths (has_unread host libs) l in
     record {
       files = search rules;
@@ -46,6 +49,9 @@ returns g c =
           (reading_fault host libs) refused all);
       name = rw c.requires at c.verdict_name-name.ensures;
       explanation = search rules;
-      said = rw found_in at c.in_ok-findings.ensures.said;
-      ordered = rw found_in at c.in_ok-findings.ensures.ordered;
+      unsupported = search rules;
+      said = subst (λ (f : List Stated). AreSaid paths host libs (seen_segments host libs) f)
+          same (rw found_in at c.in_ok-findings.ensures.said);
+      ordered = subst (λ (f : List Stated). AreInOrder paths host libs (seen_segments host libs) f)
+          same (rw found_in at c.in_ok-findings.ensures.ordered);
     }

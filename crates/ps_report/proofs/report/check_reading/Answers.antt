@@ -37,6 +37,7 @@ returns g c =
         segments = c.as_str-2.result.now;
         explanation = c.as_str-3.result.now;
         lists = c.as_str-4.result.now;
+        references = c.as_str-5.result.now;
       };
       are = record {
         files = rw c.as_str.ensures.value found.files;
@@ -60,7 +61,8 @@ returns g c =
           (unlisted (no_lists verdict libs links)));
     })
     (c.in_ok-push_str.ensures.bytes
-    ∙ ap (λ (t : List ℕ). front ++ t) (c.as_str-5.ensures.value ∙ c.in_ok-lines.ensures))
+    ∙ ap (λ (t : List ℕ). front ++ t) (c.as_str-6.ensures.value ∙ c.in_ok-lines.ensures))
     right found.name
     (rw (worded.findings, c.as_slice.ensures.value) found.said)
     (rw (worded.findings, c.as_slice.ensures.value) found.ordered) worded.places worded.worded
+    found.unsupported
