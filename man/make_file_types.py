@@ -10,9 +10,13 @@ ROOT = pathlib.Path(__file__).resolve().parent.parent
 SOURCE, PAGE = ROOT / "crates/ps_filetype/src", ROOT / "docs/OUTPUT.md"
 HEAD = "| TYPE | The way to the code file |\n|---|---|\n"
 # An arm of a match: its patterns, and the text that it gives or writes.
-ARM = re.compile(r'((?:\|?\s*\w+::\w+(?:\([^)]*\)|\s*\{[^}]*\})?\s*)+)=>\s*\{?\s*(?:(?:f\.)?write(?:_str|!)\((?:f,\s*)?)?"((?:[^"\\]|\\.)*)"')
-# An arm of the match over the files of which a command makes another one: its patterns, and what is said around the command.
-STEPS = re.compile(r'((?:\|?\s*FileType::\w+(?:\s*\{[^}]*\})?\s*)+)=>\s*Some\(Steps \{' + "".join(rf'\s*{part}: "([^"]*)",' for part in ("before", "between", "after", "end")))
+ARM = re.compile(r'((?:\|?\s*\w+::\w+(?:\([^)]*\)|\s*\{[^}]*\})?\s*)+)=>\s*\{?\s*'
+                 r'(?:(?:f\.)?write(?:_str|!)\((?:f,\s*)?)?"((?:[^"\\]|\\.)*)"')
+# An arm of the match over the files of which a command makes another one: its patterns, and what is
+# said around the command.
+STEPS = re.compile(r'((?:\|?\s*FileType::\w+(?:\s*\{[^}]*\})?\s*)+)=>\s*Some\(Steps \{'
+                   + "".join(rf'\s*{part}: "([^"]*)",'
+                             for part in ("before", "between", "after", "end")))
 
 
 def texts(file, enum):
@@ -59,7 +63,8 @@ def commands():
         before, between, after, end = parts
         for name, detail in re.findall(r"\bFileType::(\w+)(\s*\{[^}]*\})?", patterns):
             for image in re.findall(r"Image::(\w+)", detail) or [""]:
-                found[name, "" if image else re.sub(r"\D", "", detail), image] = f"{before}PATH{between}FILE{after}FILE{end}"
+                found[name, "" if image else re.sub(r"\D", "", detail), image] = (
+                    f"{before}PATH{between}PATH.whole{after}PATH.whole{end}")
     return found
 
 
@@ -70,7 +75,9 @@ def images():
 
 def rows():
     by_command, by_phrase = commands(), images()
-    sentences = {name: text for name, _, text in texts("remedy.rt", "FileType")}
+    sentences = {(name, image): text
+                 for name, detail, text in texts("remedy.rt", "FileType")
+                 for image in re.findall(r"Image::(\w+)", detail) or [""]}
     for variant in variants():
         details = (sorted((detail
                            for name, detail, image in by_command
@@ -79,7 +86,9 @@ def rows():
         for phrase in phrases(variant):
             # a header of so many bytes has a remedy of its own
             for bytes in details:
-                remedy = by_command.get((variant, bytes, by_phrase.get(phrase, "")), sentences[variant])
+                image = by_phrase.get(phrase, "")
+                remedy = (by_command.get((variant, bytes, image)) or sentences.get((variant, image))
+                          or sentences[variant, ""])
                 yield f"| {shown(phrase.replace('{bytes}', bytes or '512'))} | {shown(remedy)} |\n"
 
 

@@ -1,7 +1,7 @@
 -- Paths in a command that is typed, and what a shell reads.
 -- Source: POSIX.1-2017, Shell Command Language, 2.2 Quoting; which paths are quoted is this project's
 -- profile.
-use Rattle.std.specs.Prelude.{ℕ, ◌==◌, ◌&&◌, ◌||◌, not, if◌then◌else◌, Bool, List, [], ◌∷◌, ◌++◌, Option, Some, None, codes, decimal, length, nat_le, chars}
+use Rattle.std.specs.Prelude.{ℕ, ◌==◌, ◌&&◌, ◌||◌, not, if◌then◌else◌, Bool, List, [], ◌∷◌, ◌++◌, Option, Some, None, codes, length, nat_le, chars}
 use Rattle.std.specs.Char.{encode_utf8}
 use Rattle.std.specs.List.{flat_map, list_all, starts_with}
 use Rattle.std.specs.Option.{option_map}
@@ -25,13 +25,15 @@ unfoldable pub quoted_path : List ℕ → List ℕ
 quoted_path path = if is_plain_path path then path
     else 39 ∷ (flat_map quoted_for_shell (chars path) ++ 39 ∷ [])
 
--- a path that begins with a hyphen would be read as an option
-abbrev pub begins_with_hyphen : List ℕ → Bool
-begins_with_hyphen path = starts_with (λ a b. a == b) path (codes "-")
+-- a path that begins with a hyphen would be read as an option, and zsh takes one that begins with `=` for
+-- the name of a command
+abbrev pub is_taken_otherwise : List ℕ → Bool
+is_taken_otherwise path = starts_with (λ a b. a == b) path (codes "-")
+    || starts_with (λ a b. a == b) path (codes "=")
 
 -- what is put before a path, which names the same file with it
 abbrev pub here : List ℕ → List ℕ
-here path = if begins_with_hyphen path then codes "./" else []
+here path = if is_taken_otherwise path then codes "./" else []
 
 -- the word of a command for a path
 unfoldable pub shell_word : List ℕ → List ℕ
@@ -59,11 +61,11 @@ shell_reads Bare (b ∷ word) = if b == 39 then shell_reads Quoted word
     else (if is_plain_byte b then option_map (λ rest. b ∷ rest) (shell_reads Bare word)
     else None))
 
--- the name of the file that a command writes, by a number: `FILE`, `FILE.2`
-abbrev pub target_name : ℕ → List ℕ
-target_name number = codes "FILE" ++ (if nat_le number 1 then [] else codes "." ++ decimal number)
+-- the word for the file that a command makes of the one at a path
+abbrev pub whole_word : List ℕ → List ℕ
+whole_word path = shell_word path ++ codes ".whole"
 
--- `Exchange the bytes again: dd conv=swab if=HOST.CODE of=FILE. Then give FILE.`
-unfoldable pub command_words : List ℕ → List ℕ → List ℕ → ℕ → List ℕ → List ℕ → List ℕ
-command_words before path between number after end = before ++ (shell_word path ++ (between
-    ++ (target_name number ++ (after ++ (target_name number ++ end)))))
+-- `Unpack it: (set -C; gzip -dc < HOST.CODE > HOST.CODE.whole). Then give HOST.CODE.whole.`
+unfoldable pub command_words : List ℕ → List ℕ → List ℕ → List ℕ → List ℕ → List ℕ
+command_words before path between after end = before ++ (shell_word path ++ (between
+    ++ (whole_word path ++ (after ++ (whole_word path ++ end)))))

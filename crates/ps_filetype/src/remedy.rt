@@ -7,14 +7,13 @@ use crate::shell::{Command, Steps};
 use std::fmt::{self, Formatter};
 
 /// What to do with a file of this type so that a code file is given. Its text is one sentence, or
-/// two. A command in it has the path as a shell reads it.
+/// two. A command in it has the path as a shell reads it, and writes the path with `.whole` behind it. It
+/// stands between parentheses, so that the shell that it is typed in goes on as it was, and begins with
+/// `set -C`, by which a shell writes no file that is there.
 #[derive(Clone, Copy)]
 pub struct Remedy<'a> {
     pub file_type: FileType,
     pub path: &'a str,
-    /// The number of a file that is not there yet, which a command may write: 1 is `FILE`, and 2
-    /// `FILE.2`.
-    pub target: usize,
 }
 
 impl Remedy<'_> {
@@ -22,45 +21,54 @@ impl Remedy<'_> {
     fn steps(&self) -> Option<Steps> {
         match self.file_type {
             FileType::Swapped => Some(Steps {
-                before: "Exchange the bytes again: dd conv=swab if=",
-                between: " of=",
-                after: ". Then give ",
+                before: "Exchange the bytes again: (set -C; dd conv=swab if=",
+                between: " > ",
+                after: "). Then give ",
                 end: ".",
             }),
             FileType::MacBinary | FileType::Header { bytes: 128 } => Some(Steps {
-                before: "Remove the header: tail -c +129 ",
+                before: "Remove the header: (set -C; tail -c +129 ",
                 between: " > ",
-                after: ". Then give ",
+                after: "). Then give ",
                 end: ".",
             }),
             FileType::Header { .. } => Some(Steps {
-                before: "Remove the header: tail -c +513 ",
+                before: "Remove the header: (set -C; tail -c +513 ",
                 between: " > ",
-                after: ". Then give ",
+                after: "). Then give ",
                 end: ".",
             }),
             FileType::Gzip => Some(Steps {
-                before: "Unpack it: gzip -dc < ",
+                before: "Unpack it: (set -C; gzip -dc < ",
                 between: " > ",
-                after: ". Then give ",
+                after: "). Then give ",
                 end: ".",
             }),
             FileType::Disk {
-                image: Image::TwoImg | Image::TwoImgDosOrder,
+                image: Image::TwoImgDosOrder,
                 ..
             } => Some(Steps {
-                before: "Remove the header: tail -c +65 ",
+                before: "Remove the header, and what is behind the sectors: (set -C; dd bs=64 skip=1 count=2240 if=",
                 between: " > ",
-                after: ". Then take the code file off the volume in ",
+                after: "). Then take the code file off the volume in ",
+                end: ", as binary, and give that.",
+            }),
+            FileType::Disk {
+                image: Image::TwoImg,
+                ..
+            } => Some(Steps {
+                before: "Remove the header: (set -C; tail -c +65 ",
+                between: " > ",
+                after: "). Then take the code file off the volume in ",
                 end: ", as binary, and give that.",
             }),
             FileType::Disk {
                 image: Image::DiskCopy,
                 ..
             } => Some(Steps {
-                before: "Remove the header: tail -c +85 ",
+                before: "Remove the header: (set -C; tail -c +85 ",
                 between: " > ",
-                after: ". Then take the code file off the volume in ",
+                after: "). Then take the code file off the volume in ",
                 end: ", as binary, and give that.",
             }),
             _ => None,
@@ -113,14 +121,10 @@ impl Remedy<'_> {
 
 impl fmt::Display for Remedy<'_> {
     fn fmt<W: fmt::Write>(&self, f: &mut Formatter<W>) -> fmt::Result {
-        let Remedy { path, target, .. } = *self;
+        let path = self.path;
         match self.steps() {
             Some(steps) if !has_hidden(path) => {
-                let command = Command {
-                    steps,
-                    path,
-                    target,
-                };
+                let command = Command { steps, path };
                 write!(f, "{command}")
             }
             _ => self.write_sentence(f),

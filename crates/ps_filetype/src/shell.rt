@@ -1,8 +1,8 @@
 //! Commands for a shell, with the paths of files in them.
-ghost use Rattle.std.specs.Prelude.{◌≡◌, ◌++◌, Some, chars};
+ghost use Rattle.std.specs.Prelude.{◌≡◌, ◌++◌, Some, chars, codes};
 ghost use Rattle.std.specs.Fmt.{WritesOnOk};
 ghost use Rattle.std.specs.List.{flat_map, list_all};
-ghost use Rattle.ps_filetype.specs.ShellWords.{Bare, command_words, here as here_spec, is_plain_byte as is_plain_byte_spec, is_plain_path as is_plain_path_spec, quoted_for_shell, shell_reads, shell_word, target_name};
+ghost use Rattle.ps_filetype.specs.ShellWords.{Bare, command_words, here as here_spec, is_plain_byte as is_plain_byte_spec, is_plain_path as is_plain_path_spec, quoted_for_shell, shell_reads, shell_word, whole_word};
 
 use std::fmt::{self, Formatter};
 
@@ -53,11 +53,15 @@ fn write_characters<W: fmt::Write>(f: &mut Formatter<W>, path: &str) -> fmt::Res
     Ok(())
 }
 
-/// What is put before a path that begins with a hyphen.
+/// What is put before a path that begins with a hyphen, or with `=`, which zsh would expand.
 fn here(path: &str) -> &'static str
     ensures { result.now ≡ here_spec path.now }
 {
-    if path.starts_with("-") { "./" } else { "" }
+    if path.starts_with("-") || path.starts_with("=") {
+        "./"
+    } else {
+        ""
+    }
 }
 
 impl fmt::Display for ShellWord<'_> {
@@ -76,27 +80,15 @@ impl fmt::Display for ShellWord<'_> {
     }
 }
 
-/// A shell reads the word for a path as the path itself.
-#[tactic(auto, using(crate::proofs::ShellWords::reads_word))]
+/// A shell reads the word for a path as the path itself, and that for the file that a command writes as
+/// its path.
+#[tactic(auto, using(crate::proofs::ShellWords::reads_word, crate::proofs::ShellWords::reads_whole))]
 pub(crate) fn word_is_read(path: &str)
-    ensures { shell_reads Bare (shell_word path.now) ≡ Some (here_spec path.now ++ path.now) }
+    ensures path { shell_reads Bare (shell_word path.now) ≡ Some (here_spec path.now ++ path.now) }
+    ensures whole { shell_reads Bare (whole_word path.now)
+        ≡ Some (here_spec path.now ++ (path.now ++ codes ".whole")) }
 {
     let _path = path;
-}
-
-/// The name of the file that a command writes: `FILE`, or another one by its number, as `FILE.2`.
-#[derive(Clone, Copy)]
-struct Target(usize);
-
-impl fmt::Display for Target {
-    ghost output = { λ target. Some (target_name target.0) };
-
-    fn fmt<W: fmt::Write>(&self, f: &mut Formatter<W>) -> fmt::Result {
-        match self.0 {
-            0 | 1 => f.write_str("FILE"),
-            number => write!(f, "FILE.{number}"),
-        }
-    }
 }
 
 /// What is said around the path in a command and the file that it writes.
@@ -108,19 +100,17 @@ pub(crate) struct Steps {
     pub end: &'static str,
 }
 
-/// A command on the file at a path that writes another file, and what to do with that. Its text is
-/// sentences.
+/// A command on the file at a path that writes another file, whose path is that of the file with `.whole`
+/// behind it, and what to do with that. Its text is sentences.
 #[derive(Clone, Copy)]
 pub(crate) struct Command<'a> {
     pub steps: Steps,
     pub path: &'a str,
-    /// The number of the file that is written.
-    pub target: usize,
 }
 
 impl fmt::Display for Command<'_> {
     ghost output = { λ c. Some (command_words c.steps.before.now c.path.now c.steps.between.now
-        c.target c.steps.after.now c.steps.end.now) };
+        c.steps.after.now c.steps.end.now) };
 
     #[tactic(auto, unfolding(crate::specs::ShellWords::command_words))]
     fn fmt<W: fmt::Write>(&self, f: &mut Formatter<W>) -> fmt::Result {
@@ -131,7 +121,10 @@ impl fmt::Display for Command<'_> {
             after,
             end,
         } = self.steps;
-        let (path, target) = (ShellWord(self.path), Target(self.target));
-        write!(f, "{before}{path}{between}{target}{after}{target}{end}")
+        let path = ShellWord(self.path);
+        write!(
+            f,
+            "{before}{path}{between}{path}.whole{after}{path}.whole{end}"
+        )
     }
 }

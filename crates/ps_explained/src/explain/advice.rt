@@ -12,9 +12,6 @@ use ps_warnings::dead_run;
 use ps_words::{Name, Reason};
 use std::fmt::{self, Display, Formatter};
 
-/// The name of the file that a command writes.
-const TARGET: &[u8] = b"FILE";
-
 /// What the fault is, and what to do about it, in two lines.
 pub(super) fn write_advice<W: fmt::Write>(
     f: &mut Formatter<W>,
@@ -64,39 +61,6 @@ enum Advice<'a> {
     Library { name: Name, host: &'a str },
 }
 
-/// A file has the name that a command writes, or one that ends like it: `FILE` by the number 1, and
-/// `FILE.2` by 2.
-fn has_target_name(path: &str, number: usize) -> bool {
-    if number <= 1 {
-        let name = path.as_bytes();
-        let last = name
-            .get(name.len().saturating_sub(TARGET.len())..)
-            .unwrap_or(name);
-        return last.eq_ignore_ascii_case(TARGET);
-    }
-    match path.rsplit_once('.') {
-        Some((_, end)) => end.parse::<usize>().ok() == Some(number),
-        None => false,
-    }
-}
-
-/// No file of the check has the name of this number that a command may write.
-fn is_free(inputs: &NamedFiles<'_>, number: usize) -> bool {
-    !has_target_name(inputs.host_path, number)
-        && !inputs
-            .paths
-            .iter()
-            .any(|path| has_target_name(path, number))
-}
-
-/// The number of a name that a command may write: no file of the check has it.
-fn free_target(inputs: &NamedFiles<'_>) -> usize {
-    let last = inputs.paths.len().saturating_add(2);
-    (1..=last)
-        .find(|number| is_free(inputs, *number))
-        .unwrap_or(1)
-}
-
 impl<'a> Advice<'a> {
     /// What to do with this file.
     fn of_file(inputs: &NamedFiles<'a>, file: usize) -> Self {
@@ -108,7 +72,6 @@ impl<'a> Advice<'a> {
         Advice::OfType(Remedy {
             file_type,
             path: inputs.path(file),
-            target: free_target(inputs),
         })
     }
 }
