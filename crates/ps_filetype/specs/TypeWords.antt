@@ -28,12 +28,15 @@ abbrev pub image_words : Image → List ℕ
 image_words image.Blocks = codes "a disk image"
 image_words image.DosOrder = codes "a disk image with its sectors in the order of DOS 3.3"
 image_words image.TwoImg = codes "a disk image behind a header of the form 2IMG"
+image_words image.CpmOrder =
+    codes "a disk image with its sectors in the order of CP/M, or as they lie on the disk"
 image_words image.OtherOrder =
     codes "a disk image with its sectors in another order than its blocks"
 image_words image.TwoImgDosOrder = codes "a disk image with its sectors in the order of DOS 3.3 "
     ++ codes "behind a header of the form 2IMG"
 image_words image.DiskCopy = codes "a disk image behind a header of DiskCopy 4.2"
 image_words image.Nibbles = codes "a disk image of nibbles"
+image_words image.ImageDisk = codes "a disk image of the form IMD"
 
 -- the name of its volume, where it has one
 abbrev pub volume_words : Option (List ℕ) → List ℕ

@@ -5,11 +5,19 @@ ghost use Rattle.ps_filetype.specs.TypeWords.{image_words};
 use ps_codefile::dictionary_layout::{NAMES, PAIR, SLOTS};
 use ps_words::{NAME_LEN, Name, Order, get};
 
-/// Where the directory of a volume is: in block 2.
+/// Where the directory of a volume is, in block 2, and where its duplicate, in block 6.
 const DIRECTORY: usize = 1024;
 
-/// Where block 2 begins in an image that has the sectors in the order of DOS 3.3.
+const DUPLICATE: usize = 3072;
+
+/// Where these blocks begin in an image that has the sectors in the order of DOS 3.3.
 const DOS_DIRECTORY: usize = 2816;
+
+const DOS_DUPLICATE: usize = 768;
+
+/// Where block 2 begins in an image that has the sectors in the order of CP/M, or as they lie on the
+/// disk.
+const CPM_DIRECTORY: usize = 2048;
 
 /// Where the second half of block 2 is in such an image.
 const DOS_REST: usize = 2560;
@@ -17,10 +25,13 @@ const DOS_REST: usize = 2560;
 /// How many bytes a sector has.
 const HALF: usize = 256;
 
-/// Where a directory has the block after its last, and the number of its files; how long the entry of
+/// Where a directory has the block after its last, which one with a duplicate says is this, and the
+/// number of its files; how long the entry of
 /// a file is, and where that has its kind; and how many entries are in the first half of the first
 /// block, but for the last word of the last.
 const LAST_BLOCK: usize = 2;
+
+const DUPLICATE_END: u16 = 10;
 
 const FILE_COUNT: usize = 16;
 
@@ -33,9 +44,12 @@ const FIRST_FILES: u16 = 8;
 /// The kind of a code file.
 const CODE_FILE: u16 = 2;
 
-/// The lengths of an image of 35 tracks: of 16 sectors of 256 bytes, and as it is on the disk.
+/// The lengths of an image of 16 sectors of 256 bytes, of 35 tracks and of 40.
 const DOS_LENGTH: usize = 143_360;
 
+const LONG_LENGTH: usize = 163_840;
+
+/// The length of an image of 35 tracks as they are on the disk.
 const NIBBLES_LENGTH: usize = 232_960;
 
 /// The lengths of the headers of two forms of images.
@@ -48,14 +62,16 @@ const VOLUME_NAME: usize = 6;
 
 /// The form of the image of a disk.
 ///
-/// Source: Apple II disk images as emulators keep them; DiskCopy 4.2 of Apple.
+/// Source: Apple II disk images as emulators keep them; DiskCopy 4.2 of Apple; ImageDisk of D. Dunfield.
 #[derive(Clone, Copy)]
 pub enum Image {
     /// The blocks of the image follow one another.
     Blocks,
     /// The sectors of the image stand in the order of DOS 3.3.
     DosOrder,
-    /// The sectors of the image stand in another order than that of its blocks and that of DOS 3.3.
+    /// The sectors of the image stand in the order of CP/M, or as they lie on the disk.
+    CpmOrder,
+    /// The sectors of the image stand in another order than these and that of its blocks.
     OtherOrder,
     /// The blocks are behind the header of the form 2IMG.
     TwoImg,
@@ -65,6 +81,8 @@ pub enum Image {
     DiskCopy,
     /// The bytes of the image are those that are on the disk.
     Nibbles,
+    /// The image has the form of ImageDisk.
+    ImageDisk,
 }
 
 impl Image {
@@ -75,19 +93,22 @@ impl Image {
         match self {
             Image::Blocks => "a disk image",
             Image::DosOrder => "a disk image with its sectors in the order of DOS 3.3",
+            Image::CpmOrder =>
+                "a disk image with its sectors in the order of CP/M, or as they lie on the disk",
             Image::OtherOrder => "a disk image with its sectors in another order than its blocks",
             Image::TwoImgDosOrder =>
                 "a disk image with its sectors in the order of DOS 3.3 behind a header of the form 2IMG",
             Image::TwoImg => "a disk image behind a header of the form 2IMG",
             Image::DiskCopy => "a disk image behind a header of DiskCopy 4.2",
             Image::Nibbles => "a disk image of nibbles",
+            Image::ImageDisk => "a disk image of the form IMD",
         }
     }
 }
 
 /// The form of the image that a file is, and the name of its volume, if it has one of a p-System.
 pub(crate) fn image_of(bytes: &[u8]) -> Option<(Image, Option<Name>)> {
-    if let Some(name) = volume_at(bytes, DIRECTORY) {
+    if let Some(name) = volume_in(bytes) {
         return Some((Image::Blocks, Some(name)));
     }
     if bytes.starts_with(b"2IMG") {
@@ -103,25 +124,41 @@ pub(crate) fn image_of(bytes: &[u8]) -> Option<(Image, Option<Name>)> {
             return Some((Image::Nibbles, None));
         }
     }
-    if let Some(name) = volume_at(bytes, DISK_COPY + DIRECTORY) {
+    if let Some(name) = volume_in(behind(bytes, DISK_COPY)) {
         return Some((Image::DiskCopy, Some(name)));
     }
-    if bytes.len() != DOS_LENGTH {
-        return None;
+    if matches!(bytes.len(), DOS_LENGTH | LONG_LENGTH) {
+        return in_sectors(bytes);
     }
-    let name = volume_at(bytes, DOS_DIRECTORY)?;
-    if is_in_dos_order(bytes, 0) {
-        Some((Image::DosOrder, Some(name)))
-    } else {
-        Some((Image::OtherOrder, Some(name)))
-    }
+    None
 }
 
-/// What an image behind the header of the form 2IMG is: its blocks, or its sectors, follow it.
+/// What a disk without a header is whose sectors are not in the order of its blocks. A duplicate whose
+/// directory is lost is looked for in the order of DOS 3.3 alone: that of CP/M has its first half in
+/// the same place.
+fn in_sectors(bytes: &[u8]) -> Option<(Image, Option<Name>)> {
+    if let Some(name) = volume_at(bytes, DOS_DIRECTORY) {
+        let image = if is_in_dos_order(bytes, 0) {
+            Image::DosOrder
+        } else {
+            Image::OtherOrder
+        };
+        return Some((image, Some(name)));
+    }
+    if let Some(name) = volume_at(bytes, CPM_DIRECTORY) {
+        return Some((Image::CpmOrder, Some(name)));
+    }
+    let name = duplicate_at(bytes, DOS_DUPLICATE)?;
+    Some((Image::DosOrder, Some(name)))
+}
+
+/// What an image behind the header of the form 2IMG is: its blocks, or its sectors, follow it. Behind
+/// them may be a comment. Sectors are looked for where there are no more than 35 tracks.
 fn two_img_of(bytes: &[u8]) -> (Image, Option<Name>) {
     let in_dos_order = volume_at(bytes, TWO_IMG + DOS_DIRECTORY);
-    match volume_at(bytes, TWO_IMG + DIRECTORY) {
-        None if in_dos_order.is_some() && is_in_dos_order(bytes, TWO_IMG) => {
+    let is_short = bytes.len() < TWO_IMG + LONG_LENGTH;
+    match volume_in(behind(bytes, TWO_IMG)) {
+        None if is_short && in_dos_order.is_some() && is_in_dos_order(bytes, TWO_IMG) => {
             (Image::TwoImgDosOrder, in_dos_order)
         }
         name => (Image::TwoImg, name.or(in_dos_order)),
@@ -129,8 +166,8 @@ fn two_img_of(bytes: &[u8]) -> (Image, Option<Name>) {
 }
 
 /// The sectors of an image from a place on are in the order of DOS 3.3: a code file that its directory
-/// names begins where it does in that order; without any, the directory goes on where it does. Other
-/// orders of sectors have the first half of the directory in the same place.
+/// names begins where it does in that order; without any, the directory goes on where it does. Another
+/// order of sectors may have the first half of the directory in the same place.
 fn is_in_dos_order(bytes: &[u8], start: usize) -> bool {
     let image = bytes.get(start..).unwrap_or(&[]);
     let directory = image.get(DOS_DIRECTORY..).unwrap_or(&[]);
@@ -246,4 +283,27 @@ fn volume_at(bytes: &[u8], place: usize) -> Option<Name> {
         *to = *from;
     }
     Some(name)
+}
+
+/// The name in the duplicate of a directory at this place of a file. It says that there is one.
+fn duplicate_at(bytes: &[u8], place: usize) -> Option<Name> {
+    if is_word(bytes.get(place..)?, LAST_BLOCK, DUPLICATE_END) {
+        volume_at(bytes, place)
+    } else {
+        None
+    }
+}
+
+/// The name of the volume of these blocks: that in its directory, or in the duplicate where the directory
+/// is lost.
+fn volume_in(blocks: &[u8]) -> Option<Name> {
+    match volume_at(blocks, DIRECTORY) {
+        Some(name) => Some(name),
+        None => duplicate_at(blocks, DUPLICATE),
+    }
+}
+
+/// The bytes behind a header.
+fn behind(bytes: &[u8], header: usize) -> &[u8] {
+    bytes.get(header..).unwrap_or(&[])
 }

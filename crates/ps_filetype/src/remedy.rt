@@ -92,6 +92,11 @@ impl Remedy<'_> {
                 "Give the file beside PATH that has the same name without ._ before it.",
             FileType::Later(_) =>
                 "Compile the program of PATH by a compiler of release II.0, and give the code file that it makes.",
+            FileType::Disk {
+                image: Image::CpmOrder | Image::OtherOrder | Image::Nibbles | Image::ImageDisk,
+                ..
+            } =>
+                "Make an image of PATH that has its blocks in order. Then take the code file off the volume in that, as binary, and give it.",
             FileType::Disk { .. } =>
                 "Take the code file off the volume in PATH, as binary, and give that.",
             FileType::Encoded =>

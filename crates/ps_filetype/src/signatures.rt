@@ -4,6 +4,7 @@ ghost use Rattle.ps_filetype.specs.TypeWords.{is_code};
 
 use crate::code_file::has_procedures;
 use crate::file_type::FileType;
+use crate::images::Image;
 use ps_words::BLOCK_SIZE;
 
 /// The length of the header of MacBinary; that of other programs is a block.
@@ -16,6 +17,10 @@ pub(crate) fn by_first_bytes(bytes: &[u8]) -> Option<FileType>
     match bytes {
         [0x1F, 0x8B, 8, ..] => Some(FileType::Gzip),
         [b'P', b'K', 3, 4, ..] | [b'P', b'K', 5, 6, ..] => Some(FileType::Zip),
+        [b'I', b'M', b'D', b' ', ..] => Some(FileType::Disk {
+            image: Image::ImageDisk,
+            name: None,
+        }),
         [0x7F, b'E', b'L', b'F', ..] => Some(FileType::Elf),
         [0, 5, 0x16, 0, ..] => Some(FileType::AppleSingle),
         [0, 5, 0x16, 7, ..] => Some(FileType::AppleDouble),
