@@ -26,6 +26,9 @@ pub enum FileType {
     /// A code file with so many other bytes before it.
     Header { bytes: usize },
     Gzip,
+    Bzip2,
+    Xz,
+    Zlib,
     Zip,
     /// A program of this machine.
     Elf,
@@ -126,6 +129,9 @@ impl FileType {
             FileType::Swapped => "a code file whose bytes are exchanged in pairs",
             FileType::MacBinary => "a code file behind the 128 bytes of a MacBinary header",
             FileType::Gzip => "a gzip file",
+            FileType::Bzip2 => "a bzip2 file",
+            FileType::Xz => "an xz file",
+            FileType::Zlib => "a file of zlib data",
             FileType::Zip => "a zip file",
             FileType::Elf => "an ELF file, of another system",
             FileType::AppleSingle => "an AppleSingle file",

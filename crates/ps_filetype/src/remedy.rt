@@ -44,6 +44,18 @@ impl Remedy<'_> {
                 after: "). Then give ",
                 end: ".",
             }),
+            FileType::Bzip2 => Some(Steps {
+                before: "Unpack it: (set -C; bzip2 -dc < ",
+                between: " > ",
+                after: "). Then give ",
+                end: ".",
+            }),
+            FileType::Xz => Some(Steps {
+                before: "Unpack it: (set -C; xz -dc < ",
+                between: " > ",
+                after: "). Then give ",
+                end: ".",
+            }),
             FileType::Disk {
                 image: Image::TwoImgDosOrder,
                 ..
@@ -83,9 +95,17 @@ impl Remedy<'_> {
             FileType::Code(CodeFile::Host) => "Give PATH as the host.",
             FileType::Code(CodeFile::Library | CodeFile::Mixed) =>
                 "Give the compiled program as the host, and PATH after it, as a library.",
-            FileType::Swapped | FileType::MacBinary | FileType::Header { .. } | FileType::Gzip =>
+            FileType::Swapped
+            | FileType::MacBinary
+            | FileType::Header { .. }
+            | FileType::Gzip
+            | FileType::Bzip2
+            | FileType::Xz =>
                 "Give PATH another name, one that a shell can be given, and check it again.",
-            FileType::Zip => "Unpack PATH by unzip, and give the code file that is in it.",
+            FileType::Zlib =>
+                "Unpack PATH by a program that reads zlib data, as zlib-flate of qpdf does, and give what it makes.",
+            FileType::Zip =>
+                "Unpack PATH by unzip, and give the code file that is in it. Of several files in it, pslink list says what each is.",
             FileType::AppleSingle =>
                 "Take the data fork out of PATH, and give that: it is the code file.",
             FileType::AppleDouble =>

@@ -17,6 +17,10 @@ pub(crate) fn by_first_bytes(bytes: &[u8]) -> Option<FileType>
     match bytes {
         [0x1F, 0x8B, 8, ..] => Some(FileType::Gzip),
         [b'P', b'K', 3, 4, ..] | [b'P', b'K', 5, 6, ..] => Some(FileType::Zip),
+        [b'B', b'Z', b'h', b'1'..=b'9', ..] => Some(FileType::Bzip2),
+        [0xFD, b'7', b'z', b'X', b'Z', 0, ..] => Some(FileType::Xz),
+        // (a text may begin with the fourth that there is: `x^`)
+        [0x78, 0x01 | 0x9C | 0xDA, ..] => Some(FileType::Zlib),
         [b'I', b'M', b'D', b' ', ..] => Some(FileType::Disk {
             image: Image::ImageDisk,
             name: None,
