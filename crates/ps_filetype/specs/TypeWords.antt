@@ -69,7 +69,7 @@ plain_words type.Elf = codes "an ELF file, of another system"
 plain_words type.AppleSingle = codes "an AppleSingle file"
 plain_words type.AppleDouble = codes "an AppleDouble file, which has no byte of the code file"
 plain_words (type.Later release.Three) =
-    codes "a code file of release III.0, which is not supported"
+    codes "a code file of segments of version 3, which is not supported"
 plain_words (type.Later release.Four) =
     codes "a code file of release IV.0, which is not supported"
 plain_words type.SystemText = codes "a text of a p-System"

@@ -68,6 +68,17 @@ fn code_type_of(bytes: &[u8]) -> Option<CodeFile>
     code_file_of(bytes)
 }
 
+/// What a file is whose first block looks like the dictionary of a later release: small letters before
+/// a code file look so too.
+fn later_type(release: Release, bytes: &[u8]) -> FileType
+    ensures { is_code_spec result ≡ false }
+{
+    match behind_header(bytes) {
+        Some(file_type) => file_type,
+        None => FileType::Later(release),
+    }
+}
+
 /// What a file is that is no code file as it ought to be.
 fn other_type(bytes: &[u8]) -> FileType
     ensures { is_code_spec result ≡ false }
@@ -79,7 +90,7 @@ fn other_type(bytes: &[u8]) -> FileType
         return FileType::OneByte { byte };
     }
     if let Some(release) = later_release(bytes) {
-        return FileType::Later(release);
+        return later_type(release, bytes);
     }
     if code_file_of(bytes).is_some() {
         return FileType::Swapped;
@@ -137,7 +148,7 @@ impl FileType {
             FileType::AppleSingle => "an AppleSingle file",
             FileType::AppleDouble => "an AppleDouble file, which has no byte of the code file",
             FileType::Later(Release::Three) => {
-                "a code file of release III.0, which is not supported"
+                "a code file of segments of version 3, which is not supported"
             }
             FileType::Later(Release::Four) => "a code file of release IV.0, which is not supported",
             FileType::SystemText => "a text of a p-System",

@@ -36,7 +36,7 @@ const NUMBER: u16 = 256;
 /// Source: the segment dictionaries of UCSD Pascal III.0 and IV.0.
 #[derive(Clone, Copy)]
 pub enum Release {
-    /// Release III.0.
+    /// Release III.0, by the version of its segments alone: another compiler may write it too.
     Three,
     /// Release IV.0, or one after it.
     Four,
