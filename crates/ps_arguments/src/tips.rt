@@ -11,6 +11,8 @@ pub(crate) enum Tip {
     Command(CommandName),
     /// The version.
     Version,
+    /// This command, which pslink.mjs has alone.
+    OfModule(&'static str),
     /// A link: a file stands where the command does.
     Link,
     /// A link: the option of OUT stands where the command does.
@@ -77,6 +79,9 @@ fn meant_by<F: SameFile>(files: &F, word: &str) -> Option<Tip> {
     if word.eq_ignore_ascii_case("version") {
         return Some(Tip::Version);
     }
+    if let Some(command) = of_module(word) {
+        return Some(Tip::OfModule(command));
+    }
     if files.lead_to_one_file(word, word) {
         return Some(Tip::Link);
     }
@@ -95,6 +100,13 @@ fn in_letters(word: &str) -> Option<CommandName> {
     ]
     .into_iter()
     .find(|command| word.eq_ignore_ascii_case(command.text()))
+}
+
+/// The command of this name that pslink.mjs has and this program has not.
+fn of_module(word: &str) -> Option<&'static str> {
+    ["volume", "picture"]
+        .into_iter()
+        .find(|command| word.eq_ignore_ascii_case(command))
 }
 
 /// The command of this name, if it is one that writes no file.
@@ -130,7 +142,9 @@ impl Tip {
     pub(crate) fn command(self) -> CommandName {
         match self {
             Tip::NoFile(command, _) => command,
-            Tip::Command(_) | Tip::Version | Tip::Link | Tip::OfLink(_) => CommandName::Help,
+            Tip::Command(_) | Tip::Version | Tip::OfModule(_) | Tip::Link | Tip::OfLink(_) => {
+                CommandName::Help
+            }
         }
     }
 
@@ -139,6 +153,7 @@ impl Tip {
         match self {
             Tip::Command(command) => similar_text(heap, word, command.text()),
             Tip::Version => version_text(heap, word),
+            Tip::OfModule(command) => of_module_text(heap, word, command),
             Tip::Link => link_text(heap, word),
             Tip::OfLink(option) => of_link_text(heap, option.text()),
             Tip::NoFile(command, option) => no_file_text(heap, command.text(), option.text()),
@@ -156,6 +171,10 @@ fn version_text(heap: Global, word: &str) -> Result<String, AllocError> {
     format!(in heap;
         "unrecognized subcommand '{word}'\n\n  tip: a similar argument exists: '--version'"
     )
+}
+
+fn of_module_text(heap: Global, word: &str, name: &str) -> Result<String, AllocError> {
+    format!(in heap; "unrecognized subcommand '{word}'\n\n  tip: {name} is a command of pslink.mjs")
 }
 
 fn link_text(heap: Global, word: &str) -> Result<String, AllocError> {
