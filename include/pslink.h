@@ -56,10 +56,10 @@
  * Signals: pslink_link and pslink_text are not to be called from a signal handler, nor, where the
  * process has threads, in a child between fork and exec.
  *
- * Versions: until 1.0, what breaks a caller raises the second number of the release, and the number
- * with which the name of the shared object ends, libpslink.so.3. What is added raises the third, and
- * says since when it is there; its symbol has a node of that release, so a program does not start
- * with a library that is too old for it.
+ * Versions: until 1.0, what breaks a caller raises the second number of the release. What breaks one
+ * that is built raises the number with which the name of the shared object ends, libpslink.so.3. What
+ * is added raises the third, and says since when it is there; its symbol has a node of that release,
+ * so a program does not start with a library that is too old for it.
  */
 #ifndef PSLINK_H
 #define PSLINK_H
@@ -191,7 +191,7 @@ typedef struct pslink_file {
  * the files answers. `segments`, `private_words` and `blocks` are of a link that is done, and of a
  * report, or of what it finds, whose verdict is that the files are linked.
  *
- * `name` is what the fault is about, eight bytes as the files have them and a closing 0: of a fault
+ * `about` is what the fault is about, eight bytes as the files have them and a closing 0: of a fault
  * of a record that could be read, its name, which is the unit that is requested or the symbol; of any
  * other fault of a slot, the name of the unit that is wanted or requested there, or of the segment.
  * So after PSLINK_FAULT_MISSING_UNIT it is the unit to look for. It is "" where there is none.
@@ -204,7 +204,7 @@ typedef struct pslink_answer {
     ptrdiff_t reference;    /* the index of the reference in its record, from 0 */
     int32_t slot;           /* the slot of the host's segment dictionary, 0 to 15 */
     int32_t kind;           /* fault 14 NotAUnit: the kind word of the library's entry */
-    char name[9];           /* what the fault is about */
+    char about[9];          /* what the fault is about: `name` until 0.4.0 */
     uint32_t segments;      /* how many segments the linked file has, at most 16 */
     uint32_t private_words; /* the words of all private variables, 0 to 32767 */
     uint32_t blocks;        /* how many blocks of 512 bytes it has, at most 1025 */

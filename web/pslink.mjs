@@ -37,7 +37,8 @@
  * @property {number | null} reference the reference in its record, from 0
  * @property {number | null} slot the slot of the host's segment dictionary, 0 to 15
  * @property {number | null} kind of fault 14 NotAUnit: the kind word of the library's entry
- * @property {string | null} name the unit, segment or symbol that the fault is about: eight characters, one a byte
+ * @property {string | null} about the unit, segment or symbol that the fault is about: eight
+ * characters, one a byte
  * @property {number} segments how many segments the linked file has
  * @property {number} privateWords the words of all private variables
  * @property {number} blocks how many blocks of 512 bytes the linked file has
@@ -437,13 +438,24 @@ class Call {
   }
 
   #read(place) {
-    const view = new DataView(this.#memory.buffer, place, ANSWER_SIZE), name = characters(this.#bytes(place + 40, NAME_SIZE));
-    const index = (at) => partOf(Number(view.getBigInt64(at, true))), number = (at) => partOf(view.getInt32(at, true));
+    const view = new DataView(this.#memory.buffer, place, ANSWER_SIZE),
+          about = characters(this.#bytes(place + 40, NAME_SIZE));
+    const index = (at) => partOf(Number(view.getBigInt64(at, true))),
+          number = (at) => partOf(view.getInt32(at, true));
     return {
-      status: view.getUint32(0, true), fault: view.getUint32(4, true), file: index(8), record: index(16), reference: index(24),
-      slot: number(32), kind: number(36), name: name === "\0".repeat(NAME_SIZE) ? null : name,
-      segments: view.getUint32(52, true), privateWords: view.getUint32(56, true), blocks: view.getUint32(60, true),
-      warnings: view.getUint32(64, true), size: Number(view.getBigUint64(72, true)),
+      status: view.getUint32(0, true),
+      fault: view.getUint32(4, true),
+      file: index(8),
+      record: index(16),
+      reference: index(24),
+      slot: number(32),
+      kind: number(36),
+      about: about === "\0".repeat(NAME_SIZE) ? null : about,
+      segments: view.getUint32(52, true),
+      privateWords: view.getUint32(56, true),
+      blocks: view.getUint32(60, true),
+      warnings: view.getUint32(64, true),
+      size: Number(view.getBigUint64(72, true)),
     };
   }
 
@@ -478,7 +490,7 @@ async function answered(work) {
 
 /** What is answered where there is nothing but a status. */
 function bare(status) {
-  const none = {file: null, record: null, reference: null, slot: null, kind: null, name: null};
+  const none = {file: null, record: null, reference: null, slot: null, kind: null, about: null};
   const nothing = {segments: 0, privateWords: 0, blocks: 0, warnings: 0, size: 0};
   return {done: false, status: STATUSES[status], answer: {status, fault: 0, ...none, ...nothing}};
 }

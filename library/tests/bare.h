@@ -5,7 +5,7 @@
 static int has_fault(const pslink_answer *answer)
 {
     return answer->fault != 0 || answer->file != -1 || answer->record != -1 || answer->reference != -1 || answer->slot != -1 ||
-           answer->kind != -1 || memcmp(answer->name, "\0\0\0\0\0\0\0\0", 9) != 0;
+           answer->kind != -1 || memcmp(answer->about, "\0\0\0\0\0\0\0\0", 9) != 0;
 }
 
 /* What the status says, and of which result: nothing of a fault, of a link or of warnings. */

@@ -60,7 +60,7 @@ static int is_linked(const pslink_answer *answer, size_t warnings)
 static int is_alone(const pslink_answer *answer)
 {
     return answer->status == PSLINK_DONE && answer->fault == PSLINK_FAULT_MISSING_UNIT && answer->file == 0 && answer->slot == 7 &&
-           answer->record == -1 && answer->reference == -1 && answer->kind == -1 && strcmp(answer->name, "UTIL    ") == 0 &&
+           answer->record == -1 && answer->reference == -1 && answer->kind == -1 && strcmp(answer->about, "UTIL    ") == 0 &&
            answer->segments == 0 && answer->private_words == 0 && answer->blocks == 0 && answer->warnings == 0;
 }
 
@@ -429,11 +429,11 @@ static void check_texts(void)
         check(room[0] == '{' && memcmp(room + size - 2, "}\n", 2) == 0, "a document is none", what);
     }
     check(pslink_text(PSLINK_MAP | PSLINK_JSON, &host, 1, room, sizeof room, &answer) == PSLINK_REFUSED &&
-              answer.fault == PSLINK_FAULT_MISSING_UNIT && strcmp(answer.name, "UTIL    ") == 0,
+              answer.fault == PSLINK_FAULT_MISSING_UNIT && strcmp(answer.about, "UTIL    ") == 0,
           "a map that is refused has another name", answer.fault);
     short_host.length = 511;
     check(pslink_text(PSLINK_SHOW | PSLINK_JSON, &short_host, 1, room, sizeof room, &answer) == PSLINK_REFUSED &&
-              answer.fault == PSLINK_FAULT_SHORT_FILE && answer.name[0] == 0,
+              answer.fault == PSLINK_FAULT_SHORT_FILE && answer.about[0] == 0,
           "a short file is shown", answer.fault);
 }
 

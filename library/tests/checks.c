@@ -146,7 +146,7 @@ static void check_refusals(void)
     check(answer.fault == 13 && answer.file == 0 && answer.slot == 7 && answer.kind == -1 && answer.record == -1 &&
               answer.reference == -1 && answer.size == 0,
           "the fault is another", 300);
-    check(strcmp(answer.name, "UTIL    ") == 0, "the missing unit is another", 300);
+    check(strcmp(answer.about, "UTIL    ") == 0, "the missing unit is another", 300);
     size = pslink_fault_text(&answer, NULL, 0);
     check(size == sizeof "refused 13 MissingUnit file 0 slot 7", "the text has another length", size);
     memset(text, FILLER, sizeof text);

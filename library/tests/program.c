@@ -86,7 +86,7 @@ static int is_of_link(const pslink_answer *verdict, const struct files *files)
     free(out);
     return (one.status == PSLINK_REFUSED) == (verdict->fault != 0) && one.fault == verdict->fault && one.file == verdict->file &&
            one.record == verdict->record && one.reference == verdict->reference && one.slot == verdict->slot &&
-           one.kind == verdict->kind && memcmp(one.name, verdict->name, sizeof one.name) == 0 && one.segments == verdict->segments &&
+           one.kind == verdict->kind && memcmp(one.about, verdict->about, sizeof one.about) == 0 && one.segments == verdict->segments &&
            one.private_words == verdict->private_words && one.blocks == verdict->blocks;
 }
 

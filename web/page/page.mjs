@@ -207,13 +207,13 @@ function insert(added, lost = []) {
  * What a person can take that has the unit which is missing: entries of open volumes, and files
  * that were removed.
  */
-function havingUnit({fault: number, name}) {
+function havingUnit({fault: number, about}) {
   if (number !== MISSING_UNIT) return [];
   const isChosen = (entry) => state.files.some((file) => file.entry === entry);
-  const entries = state.volumes.flatMap(({volume, entries: all}) => all
-    .filter((entry) => entry.bytes && !isChosen(entry))
-    .map((entry) => fileOf(volume, entry)));
-  return [...entries, ...state.removed].filter(({had}) => had.includes(name));
+  const entries = state.volumes.flatMap(
+    ({volume, entries: all}) =>
+      all.filter((entry) => entry.bytes && !isChosen(entry)).map((entry) => fileOf(volume, entry)));
+  return [...entries, ...state.removed].filter(({had}) => had.includes(about));
 }
 
 /**
@@ -232,7 +232,7 @@ function instead(file) {
 function offersFor({answer}) {
   const file = state.files[answer?.file ?? -1];
   if (file?.form || file?.note) return instead(file);
-  const unit = listed([answer?.name ?? ""]);
+  const unit = listed([answer?.about ?? ""]);
   return havingUnit(answer ?? {}).map((file) => ({
     sentence: `${shownName(file.name)} has ${unit}.`,
     words: `Take ${shownName(file.name)}`,

@@ -14,8 +14,25 @@ const checks = new Checks();
 /** What native.py tells of an answer; of none, why there is none. */
 function told({answer, reason, fault = null, bytes = new Uint8Array()}) {
   if (answer === null) return [reason];
-  const {status, fault: number, file, record, reference, slot, kind, name, segments, privateWords, blocks, warnings, size} = answer;
-  const fields = [status, number, file, record, reference, slot, kind, name, segments, privateWords, blocks, warnings, size];
+  const {
+    status,
+    fault: number,
+    file,
+    record,
+    reference,
+    slot,
+    kind,
+    about,
+    segments,
+    privateWords,
+    blocks,
+    warnings,
+    size
+  } = answer;
+  const fields = [
+    status, number, file, record, reference, slot, kind, about, segments, privateWords, blocks,
+    warnings, size
+  ];
   return [...fields, fault, createHash("sha256").update(bytes).digest("hex")];
 }
 

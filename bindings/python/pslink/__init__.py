@@ -77,7 +77,7 @@ class _Answer(ctypes.Structure):
         ("reference", ctypes.c_ssize_t),
         ("slot", ctypes.c_int32),
         ("kind", ctypes.c_int32),
-        ("name", ctypes.c_uint8 * (_NAME_LENGTH + 1)),
+        ("about", ctypes.c_uint8 * (_NAME_LENGTH + 1)),
         ("segments", ctypes.c_uint32),
         ("private_words", ctypes.c_uint32),
         ("blocks", ctypes.c_uint32),
@@ -382,8 +382,9 @@ class _Files:
         """The fault of an answer."""
         room = ctypes.create_string_buffer(_FAULT_TEXT_MAX)
         size = _library.pslink_fault_text(answer, room, len(room))
-        about = bytes(answer.name)[:_NAME_LENGTH]
-        parts = [None if part < 0 else part for part in (answer.kind, answer.slot, answer.record, answer.reference)]
+        about = bytes(answer.about)[:_NAME_LENGTH]
+        parts = [None if part < 0 else part
+                 for part in (answer.kind, answer.slot, answer.record, answer.reference)]
         return Refused(
             room.raw[: max(1, size) - 1].decode("ascii"),
             answer.fault,

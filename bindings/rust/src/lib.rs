@@ -216,7 +216,7 @@ impl<'a> Files<'a> {
     /// The fault that an answer has; `None` where its number is none of this release.
     fn fault(&self, answer: &Answer) -> Option<Fault> {
         let file = usize::try_from(answer.file).ok()?;
-        let name: [u8; 8] = answer.name[..8].try_into().ok()?;
+        let name: [u8; 8] = answer.about[..8].try_into().ok()?;
         Some(Fault {
             reason: Reason::of_number(u8::try_from(answer.fault).ok()?)?,
             kind: u16::try_from(answer.kind).ok(),

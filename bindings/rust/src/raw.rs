@@ -22,7 +22,7 @@ pub struct Answer {
     pub reference: isize,
     pub slot: i32,
     pub kind: i32,
-    pub name: [u8; 9],
+    pub about: [u8; 9],
     pub segments: u32,
     pub private_words: u32,
     pub blocks: u32,
