@@ -119,8 +119,17 @@ extern "C" {
 #define PSLINK_HAD 8u    /* the units whose code the first file has, by slot */
 /* end */
 
+/* The type of a file, of any bytes: one line, ended by a byte 10, of at most 15 bytes. No file is
+   refused. It is there since the release after 0.4.0: in an earlier one that is PSLINK_MISUSE. */
+/* made by man/make_constants.py from crates/ps_c_texts/src/kinds.rt: the type of a file */
+#define PSLINK_TYPE 9u /* what the first file is for, and its byte order: a word for each, as
+                          `library little`. The first word is `host`, `library`, `linked` or `mixed`,
+                          which is a file that has linked segments and others and no host program. The
+                          second is `little` or `big`. Of any other file the line is `other` */
+/* end */
+
 /* PSLINK_MAP | PSLINK_JSON and so on: one JSON document in place of lines, as the program prints it
-   with --json. Names of units have none: that is PSLINK_MISUSE. */
+   with --json. Names of units and the type of a file have none: that is PSLINK_MISUSE. */
 #define PSLINK_JSON 256u
 
 /* What pslink_fault has of a fault. */
@@ -232,13 +241,13 @@ uint32_t pslink_link(const pslink_file *files, size_t count, void *out, size_t r
  * the documents. It is text without a closing 0, UTF-8 where names of files are in it. Its length is not
  * bounded by a constant: call with `out` NULL, and then with a capacity of `answer.size`.
  *
- * `files`: as those of pslink_link. A list and units treat all files alike; a show and the names of
- * provided units are of files[0] alone.
+ * `files`: as those of pslink_link. A list and units treat all files alike; a show, the names of
+ * provided units and the type of a file are of files[0] alone.
  *
  * A map and its references are refused as a link is, a show and names of units as 1 ShortFile or
- * 2 NoOrder only. A report, what it finds, a list and its units are never PSLINK_REFUSED. What is
- * wrong with the files is in the text of a report, a list and units; of a report and of what it finds
- * the verdict is in `answer`, with the number of warnings.
+ * 2 NoOrder only. A report, what it finds, a list, its units and the type of a file are never
+ * PSLINK_REFUSED. What is wrong with the files is in the text of a report, a list and units; of a
+ * report and of what it finds the verdict is in `answer`, with the number of warnings.
  */
 uint32_t pslink_text(uint32_t what, const pslink_file *files, size_t count, void *out, size_t room,
                      pslink_answer *answer);

@@ -14,4 +14,5 @@ static const struct {
     [PSLINK_FINDINGS] = {1, 1, 1},
     [PSLINK_WANTED] = {1, 0, 0},
     [PSLINK_HAD] = {1, 0, 0},
+    [PSLINK_TYPE] = {1, 0, 0},
 };

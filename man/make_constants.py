@@ -1,9 +1,12 @@
 #!/usr/bin/env python3
-"""Writes the faults into include/pslink.h and bindings/rust/src/reason.rs, between the comment that names this script and the
-next one, from the variants of `Reason`, so that they have one home; the highest number of them into the comments of reason.rs and
-into docs/json-schema.json; library/faults.h and web/pslink.mjs, which have the name of each with the sentences that `pslink check` prints; the
-texts of `kinds.rt` into include/pslink.h, docs/EMBEDDING.md and the Rust crate, each with what is said of it there, library/kinds.h,
-web/pslink.mjs, web/README.md and the Python package; the calls for names of units into the bindings and the pages on them; and the
+"""Writes the faults into include/pslink.h and bindings/rust/src/reason.rs, between the comment that
+names this script and the next one, from the variants of `Reason`, so that they have one home; the
+highest number of them into the comments of reason.rs and into docs/json-schema.json;
+library/faults.h and web/pslink.mjs, which have the name of each with the sentences that `pslink
+check` prints; the texts of `kinds.rt` into include/pslink.h, docs/EMBEDDING.md and the Rust crate,
+each with what is said of it there, library/kinds.h, web/pslink.mjs, web/README.md and the Python
+package; the calls for names of units into the bindings and the pages on them, and the number of the
+type of a file; and the
 release of CHANGES.md into the header and the bindings.
 Usage: make_constants.py [FOLDER], which is the files' own if none is given."""
 import pathlib
@@ -108,6 +111,11 @@ class Kind(NamedTuple):
         return self.made.startswith("TextKind::OfHost(")
 
     @property
+    def is_type(self):
+        """The text is the line of what a file is."""
+        return self.made == "TextKind::OfHost(HostText::CodeType)"
+
+    @property
     def names(self):
         """Which names a call for names of units gives, and all else that is said of them, in
         sentences."""
@@ -118,8 +126,8 @@ class Kind(NamedTuple):
 
 
 def kinds(function):
-    """The texts that a function of the source gives by their numbers, in their order: `kind_in` those that have a document, `text_kind`
-    names of units."""
+    """The texts that a function of the source gives by their numbers, in their order: `kind_in`
+    those that have a document, `text_kind` names of units and the type of a file."""
     source = KINDS.read_text()
     body = re.search(rf"(?s)fn {function}\(.*?\n\}}", source)[0]
     made = dict(re.findall(r"^ +TEXT_(\w+) => Some\((.*)\),$", body, re.M))
@@ -136,7 +144,8 @@ def kinds(function):
     return found
 
 
-TEXTS, NAMES = kinds("kind_in"), kinds("text_kind")
+TEXTS, PLAIN = kinds("kind_in"), kinds("text_kind")
+NAMES, TYPES = ([kind for kind in PLAIN if kind.is_type == is_type] for is_type in (False, True))
 
 
 def defined(kinds):
@@ -157,8 +166,9 @@ def table():
     yield (f"/* made by man/make_constants.py from {KINDS_FROM}: of each text by its number, "
            "whether it has a document, and whether files\n")
     yield " * have names in it */\n#include <pslink.h>\n\n"
-    yield "static const struct {\n    unsigned char is_there, has_document, has_names;\n} kinds[] = {\n"
-    for kind in TEXTS + NAMES:
+    yield ("static const struct {\n    unsigned char is_there, has_document, has_names;\n} kinds[] "
+           "= {\n")
+    for kind in TEXTS + PLAIN:
         has_names = kind.made.startswith("TextKind::Named(")
         yield f"    [{kind.constant}] = {{1, {int(kind in TEXTS)}, {int(has_names)}}},\n"
     yield "};\n"
@@ -179,8 +189,11 @@ def texts():
 
 
 def page():
-    """The page on the library in C, with the texts: what is said of each, and the command that prints it."""
-    rows = [f"| `{kind.constant}` | {kind.words} | {kind.command and f'`pslink {kind.command}`'} |\n" for kind in TEXTS + NAMES]
+    """The page on the library in C, with the texts: what is said of each, and the command that
+    prints it."""
+    rows = [f"| `{kind.constant}` | {kind.words} | {kind.command and f'`pslink {kind.command}`'} "
+            "|\n"
+            for kind in TEXTS + PLAIN]
     return with_table(PAGE.read_text(), HEAD, rows)
 
 
@@ -208,7 +221,8 @@ def header():
     """The header, with the faults and the texts."""
     text = between(HEADER.read_text(), FAULTS_FROM, constants())
     text = between(text, f"{KINDS_FROM}: the texts", defined(TEXTS))
-    return between(text, f"{KINDS_FROM}: the names of units", defined(NAMES))
+    text = between(text, f"{KINDS_FROM}: the names of units", defined(NAMES))
+    return between(text, f"{KINDS_FROM}: the type of a file", defined(TYPES))
 
 
 def replaced(text, *places):
@@ -222,7 +236,7 @@ def replaced(text, *places):
 
 def script():
     """The module in JavaScript, with the faults, and with the texts by their numbers."""
-    listed = textwrap.fill(", ".join(f"{kind.word}: {kind.number}" for kind in TEXTS + NAMES), 99,
+    listed = textwrap.fill(", ".join(f"{kind.word}: {kind.number}" for kind in TEXTS + PLAIN), 99,
                            initial_indent="  ", subsequent_indent="  ").removeprefix("  ")
     of_names = ", ".join(f'"{kind.word}"' for kind in NAMES)
     text = between(SCRIPT.read_text(), FAULTS_FROM, said("  [", "],\n"))
@@ -242,17 +256,19 @@ def calls_in_python():
                 '"""']
         yield f"def units_{kind.word}({given}) -> List[str]:\n"
         yield from (f"    {line}".rstrip() + "\n" for line in said)
-        yield f'    return _Files({files}).units(_NAMES["{kind.word}"])\n\n\n'
+        yield f'    return _Files({files}).units(_PLAIN["{kind.word}"])\n\n\n'
 
 
 def package():
     """The module in Python, with the texts by their numbers, and the calls for names of units."""
     words = ", ".join(f'"{kind.word}"' for kind in TEXTS)
-    listed, of_names = (", ".join(f'"{kind.word}": {kind.number}' for kind in kinds) for kinds in (TEXTS, NAMES))
+    listed, plain = (", ".join(f'"{kind.word}": {kind.number}' for kind in kinds)
+                     for kinds in (TEXTS, PLAIN))
     calls = ", ".join(f'"units_{kind.word}"' for kind in NAMES)
     text = between(PYTHON.read_text(), f"{KINDS_FROM}: the names of units", calls_in_python())
-    places = (r"^(_TEXTS = \{).*(\})", listed), (r"^(_NAMES = \{).*(\})", of_names)
-    return replaced(text, (r"^(Text = Literal\[).*(\])", words), (r'^(    )"units_.*(,)$', calls), *places)
+    places = (r"^(_TEXTS = \{).*(\})", listed), (r"^(_PLAIN = \{).*(\})", plain)
+    return replaced(text, (r"^(Text = Literal\[).*(\])", words), (r'^(    )"units_.*(,)$', calls),
+                    *places)
 
 
 def page_of_script():
@@ -281,8 +297,9 @@ def variants_of_texts():
 
 
 def calls_in_rust():
-    """The names of units by their numbers, and the calls for them as Rust has them, each with what is said of it."""
-    yield from (f"const {kind.name}: u32 = {kind.number};\n" for kind in NAMES)
+    """The texts without a document by their numbers, and the calls for names of units as Rust has
+    them, each with what is said of it."""
+    yield from (f"const {kind.name}: u32 = {kind.number};\n" for kind in PLAIN)
     for kind in NAMES:
         first, more = kind.names
         of_file = "file: impl Into<File<'a>>"

@@ -220,6 +220,7 @@ PARTS = {
     "the limits": lambda: table(LINKING.tables("Limits")[0]),
     "the texts of the library": lambda: constants(make_constants.TEXTS),
     "the names of units": lambda: constants(make_constants.NAMES),
+    "the type of a file": lambda: constants(make_constants.TYPES),
 }
 
 

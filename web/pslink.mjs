@@ -67,6 +67,7 @@
 export const TEXTS = Object.freeze({
   __proto__: null,
   map: 0, references: 1, show: 2, check: 3, list: 4, units: 5, findings: 6, wanted: 7, had: 8,
+  type: 9,
 });
 // clang-format on
 

@@ -179,7 +179,8 @@ static void check_memory(uint32_t what, size_t count)
 /* A text that there is not, where no memory is had: the call asks for none. */
 static void check_no_text(void)
 {
-    static const uint32_t none[] = {TEXTS, PSLINK_WANTED | PSLINK_JSON, PSLINK_HAD | PSLINK_JSON, PSLINK_CHECK | 2 * PSLINK_JSON};
+    static const uint32_t none[] = {TEXTS, PSLINK_WANTED | PSLINK_JSON, PSLINK_HAD | PSLINK_JSON, PSLINK_TYPE | PSLINK_JSON,
+                                    PSLINK_CHECK | 2 * PSLINK_JSON};
     const pslink_file files[3] = {host, library, library};
     pslink_answer answer;
     size_t k;
@@ -491,18 +492,18 @@ static void check_findings(void)
     library = kept;
 }
 
-/* Whether these are the names of units that files want or have. */
-static int are_names(uint32_t what, pslink_file one, const pslink_file *lib, const char *names)
+/* Whether this text of files is what is put: names of units, or a line, which are ASCII. */
+static int is_text(uint32_t what, pslink_file one, const pslink_file *lib, const char *wanted)
 {
     static unsigned char room[ROOM];
     const pslink_file files[2] = {one, lib == NULL ? one : *lib};
-    const size_t size = strlen(names);
+    const size_t size = strlen(wanted);
     pslink_answer answer;
 
     memset(&answer, 0xFF, sizeof answer);
     memset(room, FILLER, sizeof room);
     return pslink_text(what, files, lib == NULL ? 1 : 2, room, sizeof room, &answer) == PSLINK_DONE && answer.size == size &&
-           !has_fault(&answer) && memcmp(room, names, size) == 0 && is_untouched(room, size, sizeof room);
+           !has_fault(&answer) && memcmp(room, wanted, size) == 0 && is_untouched(room, size, sizeof room);
 }
 
 /* The names of units that are wanted and had, in rooms of each kind; nothing is refused. */
@@ -521,9 +522,9 @@ static void check_units(void)
     check(pslink_text(PSLINK_WANTED, &host, 1, room, 8, &answer) == PSLINK_DONE && answer.size == 8 &&
               memcmp(room, "UTIL    ", 8) == 0 && is_untouched(room, 8, sizeof room),
           "the host wants another unit", answer.size);
-    check(are_names(PSLINK_WANTED, host, &library, "UTIL    "), "the host wants another unit beside the library", 0);
-    check(are_names(PSLINK_HAD, host, NULL, ""), "the host has a unit", 0);
-    check(are_names(PSLINK_HAD, library, NULL, "UTIL    "), "the library has other units", 0);
+    check(is_text(PSLINK_WANTED, host, &library, "UTIL    "), "the host wants another unit beside the library", 0);
+    check(is_text(PSLINK_HAD, host, NULL, ""), "the host has a unit", 0);
+    check(is_text(PSLINK_HAD, library, NULL, "UTIL    "), "the library has other units", 0);
     check(pslink_text(PSLINK_WANTED, &nothing, 1, room, sizeof room, &answer) == PSLINK_REFUSED &&
               answer.fault == PSLINK_FAULT_SHORT_FILE && answer.file == 0,
           "nothing wants units", answer.fault);
@@ -549,14 +550,14 @@ static void check_each_once(void)
     const pslink_file both = copied(host, wants), using = copied(library, uses);
 
     memcpy(uses + 1024, "AUX     \1\0\1", 11);
-    check(are_names(PSLINK_WANTED, host, &using, "UTIL    AUX     "), "a unit that UTIL uses is not wanted", 0);
+    check(is_text(PSLINK_WANTED, host, &using, "UTIL    AUX     "), "a unit that UTIL uses is not wanted", 0);
     wants[208] = 3; /* the kind of slot 8 */
     memcpy(wants + 128, "UTIL    ", 8);
-    check(are_names(PSLINK_WANTED, both, NULL, "UTIL    "), "two slots of one unit want other names, and no library has it", 0);
-    check(are_names(PSLINK_WANTED, both, &library, "UTIL    "), "two slots of one unit want other names", 0);
+    check(is_text(PSLINK_WANTED, both, NULL, "UTIL    "), "two slots of one unit want other names, and no library has it", 0);
+    check(is_text(PSLINK_WANTED, both, &library, "UTIL    "), "two slots of one unit want other names", 0);
     memcpy(wants + 128, "AUX     ", 8);
-    check(are_names(PSLINK_WANTED, both, NULL, "UTIL    AUX     "), "two slots want other units", 0);
-    check(are_names(PSLINK_WANTED, both, &using, "UTIL    AUX     "), "a unit that a slot and a record want is not there once", 0);
+    check(is_text(PSLINK_WANTED, both, NULL, "UTIL    AUX     "), "two slots want other units", 0);
+    check(is_text(PSLINK_WANTED, both, &using, "UTIL    AUX     "), "a unit that a slot and a record want is not there once", 0);
 }
 
 /* A linked file wants no unit and has none, and neither does one in which no name can be read; a file with kinds in both orders is
@@ -571,12 +572,12 @@ static void check_other_files(void)
 
     check(pslink_link(files, 2, out, sizeof out, &answer) == PSLINK_DONE, "the pair is not linked", answer.fault);
     file.length = answer.size;
-    check(are_names(PSLINK_WANTED, file, NULL, "") && are_names(PSLINK_WANTED, file, &library, ""), "a linked file wants units", 0);
-    check(are_names(PSLINK_HAD, file, NULL, ""), "a linked file has units", 0);
+    check(is_text(PSLINK_WANTED, file, NULL, "") && is_text(PSLINK_WANTED, file, &library, ""), "a linked file wants units", 0);
+    check(is_text(PSLINK_HAD, file, NULL, ""), "a linked file has units", 0);
     for (one = files; one < files + 2; one++) {
         file = copied(*one, other);
         memset(other + 64, 1, 128);
-        check(are_names(PSLINK_WANTED, file, &library, "") && are_names(PSLINK_HAD, file, NULL, ""), "what has no name to read has units",
+        check(is_text(PSLINK_WANTED, file, &library, "") && is_text(PSLINK_HAD, file, NULL, ""), "what has no name to read has units",
               (size_t)(one - files));
         other[193] = 1; /* the kind of slot 0 in the other order */
         memset(room, FILLER, sizeof room);
@@ -587,6 +588,55 @@ static void check_other_files(void)
                   answer.fault == PSLINK_FAULT_NO_ORDER && answer.file == 0 && is_untouched(room, 0, sizeof room),
               "a file of both orders has units", answer.fault);
     }
+}
+
+/* A file with the words of its dictionary in the other byte order. */
+static pslink_file turned(pslink_file file, unsigned char *copy)
+{
+    size_t at;
+
+    file = copied(file, copy);
+    for (at = 0; at < 224; at = at == 62 ? 192 : at + 2) {
+        const unsigned char first = copy[at];
+
+        copy[at] = copy[at + 1];
+        copy[at + 1] = first;
+    }
+    return file;
+}
+
+/* The line of what a file is, of each type, in both byte orders; no file is refused, and no library has part in it. */
+static void check_types(void)
+{
+    static const char pascal[] = "PROGRAM DEMO;\nUSES UTIL;\nBEGIN\nEND.\n";
+    static unsigned char linked[ROOM], mixed[ROOM], other[ROOM];
+    const pslink_file files[2] = {host, library}, nothing = {NULL, NULL, 0}, text = {NULL, pascal, sizeof pascal - 1};
+    pslink_file file = {NULL, linked, 0};
+    pslink_answer answer = {0};
+
+    check(is_text(PSLINK_TYPE, host, NULL, "host little\n"), "a host has another type", 0);
+    check(is_text(PSLINK_TYPE, host, &nothing, "host little\n"), "a host has another type beside a library", 0);
+    check(is_text(PSLINK_TYPE, turned(host, other), NULL, "host big\n"), "a host has another type", 1);
+    check(is_text(PSLINK_TYPE, library, &host, "library little\n"), "a library has another type", 0);
+    check(is_text(PSLINK_TYPE, turned(library, other), NULL, "library big\n"), "a library has another type", 1);
+    check(pslink_link(files, 2, linked, sizeof linked, &answer) == PSLINK_DONE, "the pair is not linked", answer.fault);
+    file.length = answer.size;
+    check(is_text(PSLINK_TYPE, file, NULL, "linked little\n"), "a linked file has another type", 0);
+    /* (slot 3 has the code of slot 2 and the kind 0) */
+    file = copied(library, mixed);
+    memcpy(mixed + 12, mixed + 8, 4);
+    memcpy(mixed + 88, "OTHER   ", 8);
+    check(is_text(PSLINK_TYPE, file, NULL, "mixed little\n"), "a library with a linked segment has another type", 0);
+    check(is_text(PSLINK_TYPE, turned(file, other), NULL, "mixed big\n"), "a library with a linked segment has another type", 1);
+    check(is_text(PSLINK_TYPE, nothing, &library, "other\n") && is_text(PSLINK_TYPE, text, NULL, "other\n"), "what is no code file has a type", 0);
+    file = host;
+    file.length = 511;
+    check(is_text(PSLINK_TYPE, file, NULL, "other\n"), "a file of 511 bytes has a type", 0);
+    file = copied(library, other);
+    other[193] = 1; /* the kind of slot 0 in the other order */
+    check(is_text(PSLINK_TYPE, file, NULL, "other\n"), "a file of both orders has a type", 0);
+    check(pslink_text(PSLINK_TYPE, &library, 1, NULL, 0, &answer) == PSLINK_TOO_SMALL && is_small(&answer, 15), "another room is asked for",
+          answer.size);
 }
 
 int main(int argc, char **argv)
@@ -614,5 +664,6 @@ int main(int argc, char **argv)
     check_units();
     check_each_once();
     check_other_files();
+    check_types();
     return failures != 0;
 }

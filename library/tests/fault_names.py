@@ -1,8 +1,9 @@
 #!/usr/bin/env python3
-"""Names that the library answers, of each set of files of .ci/report and some of those that it generates: that of what a fault is about beside the words of the report, where
-a record was read its name, and else that of the segment; and those of units beside the document of the list. And the names of
-faults and the sentences on each beside the tables of docs/LINKING.md and of pslink(1). Prints what is otherwise.
-Usage: fault_names.py LIBRARY"""
+"""Names that the library answers, of each set of files of .ci/report and some of those that it
+generates: that of what a fault is about beside the words of the report, where a record was read its
+name, and else that of the segment; and those of units, and the type of each file, beside the
+document of the list. And the names of faults and the sentences on each beside the tables of
+docs/LINKING.md and of pslink(1). Prints what is otherwise. Usage: fault_names.py LIBRARY"""
 import ctypes
 import json
 import pathlib
@@ -22,7 +23,7 @@ SEGMENT = re.compile(r"^  segment (.*), of slot \d\d of the host$", re.M)
 UNLINKED = 19, 21, 22, 23
 ROOM = 1 << 20
 SOME = 100  # generated sets
-CHECK, LIST, FINDINGS, WANTED, HAD, JSON = 3, 4, 6, 7, 8, 256
+CHECK, LIST, FINDINGS, WANTED, HAD, TYPE, JSON = 3, 4, 6, 7, 8, 9, 256
 NAME, MEANING, REMEDY = 0, 1, 2
 
 
@@ -160,6 +161,19 @@ def unit_differences(library, room, host, libraries):
         yield f"a file with nothing to link wants {wanted}"
 
 
+def type_differences(library, room, host, libraries):
+    """The type of each file beside its list: a file that the list calls something else, or of which
+    it says that it has no segment, is `other`. Of the first file the libraries say nothing."""
+    files = json.loads(made(library, LIST | JSON, room, host, libraries)[0])["files"]
+    for data, others, told in [(host, libraries, files[0]),
+                               *((data, (), file) for data, file in zip(libraries, files[1:]))]:
+        line, answer = made(library, TYPE, room, data, others)
+        is_code = told["type"] is None and told["contents"] is not None
+        if (answer.status, line.decode("latin-1")) != (
+                0, f"{told['contents']} {told['order']}\n" if is_code else "other\n"):
+            yield f"a file has the type {line}, of status {answer.status}, and its list {told}"
+
+
 def below(heading):
     """What docs/LINKING.md has below this heading."""
     return (ROOT / "docs/LINKING.md").read_text().split(f"### {heading}\n", 1)[1].split("\n#", 1)[0]
@@ -197,7 +211,7 @@ def main():
     found = [] if len(sets) >= 450 else [f"there are {len(sets)} sets of files"]
     found += fault_differences(library)
     for number, (host, libraries) in enumerate(sets):
-        for differ in (differences, unit_differences):
+        for differ in (differences, unit_differences, type_differences):
             found += [f"set {number}: {line}" for line in differ(library, room, host, libraries)]
     for line in found[:20]:
         print(line)

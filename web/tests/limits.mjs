@@ -198,8 +198,10 @@ async function checkMisuse() {
   for (const kind of ["nothing", "toString", "__proto__", "", undefined, null, 3, Symbol("map")]) {
     checkBare(`the text ${String(kind)}`, await pslink.text(kind, files), "misuse", 2);
   }
-  for (const kind of ["wanted", "had"]) checkBare(`${kind} as a document`, await pslink.text(kind, files, {json: true}), "misuse", 2);
-  for (const kind of ["check", "", undefined]) checkBare(`units of ${kind}`, await pslink.units(kind, files), "misuse", 2);
+  for (const kind of ["wanted", "had", "type"])
+    checkBare(`${kind} as a document`, await pslink.text(kind, files, {json: true}), "misuse", 2);
+  for (const kind of ["check", "type", "", undefined])
+    checkBare(`units of ${kind}`, await pslink.units(kind, files), "misuse", 2);
 }
 
 async function checkTypes() {

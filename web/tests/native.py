@@ -16,7 +16,7 @@ import cases
 sys.path.insert(0, str(cases.ROOT / "man"))
 import make_constants
 
-TEXTS = {int(kind.number): kind.word for kind in make_constants.TEXTS + make_constants.NAMES}
+TEXTS = {int(kind.number): kind.word for kind in make_constants.TEXTS + make_constants.PLAIN}
 JSON_FORM, LINKED_MAX, LINE_MAX = 256, 524800, 160
 INDEXES, NUMBERS = ("file", "record", "reference"), ("slot", "kind")
 COUNTS = ("segments", "private_words", "blocks", "warnings")

@@ -50,7 +50,8 @@ File = Union[_Contents, Tuple[str, _Contents]]
 # `units` is `check --unit`, `findings` is what a `check` finds, one by one.
 Text = Literal["map", "references", "show", "check", "list", "units", "findings"]
 _TEXTS = {"map": 0, "references": 1, "show": 2, "check": 3, "list": 4, "units": 5, "findings": 6}
-_NAMES = {"wanted": 7, "had": 8}
+# those that have no document
+_PLAIN = {"wanted": 7, "had": 8, "type": 9}
 _JSON = 256
 _NAME, _MEANING, _REMEDY = 0, 1, 2
 _NAME_LENGTH = 8
@@ -501,7 +502,7 @@ def units_wanted(host: File, libs: Iterable[File] = ()) -> List[str]:
     where the host is linked already, or where its list says that it is something else than a code
     file. Raises what `show` raises.
     """
-    return _Files(host, libs).units(_NAMES["wanted"])
+    return _Files(host, libs).units(_PLAIN["wanted"])
 
 
 def units_had(file: File) -> List[str]:
@@ -510,7 +511,7 @@ def units_had(file: File) -> List[str]:
     There is none where the file is linked already, or where its list says that it is something else
     than a code file. Raises what `show` raises.
     """
-    return _Files(file).units(_NAMES["had"])
+    return _Files(file).units(_PLAIN["had"])
 
 
 # end

@@ -464,6 +464,7 @@ pub fn text<'a>(
 // made by man/make_constants.py from crates/ps_c_texts/src/kinds.rt: the names of units
 const WANTED: u32 = 7;
 const HAD: u32 = 8;
+const TYPE: u32 = 9;
 
 /// The names of the units that a link takes from libraries, or would take if a library had
 /// them, each once.

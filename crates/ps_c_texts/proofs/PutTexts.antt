@@ -15,7 +15,9 @@ use Rattle.ps_words.specs.FaultPlaces.{in_file}
 use Rattle.ps_words.specs.declared.fault.Fault.{Fault}
 use Rattle.ps_words.specs.declared.fault.Reason.TheVariants as reason
 use Rattle.ps_texts.specs.Texts.{IsMadeOf, bytes_in, report_bytes, report_status, status_in}
-use Rattle.ps_texts.specs.Unmade.{CanLackMemory, IsRefusedFor, WhyUnmade}
+use Rattle.ps_texts.specs.Unmade.{CanLackMemory, HostCanRefuse, IsRefusedFor, WhyUnmade}
+use Rattle.ps_texts.specs.declared.kinds.HostText.{HostText}
+use Rattle.ps_texts.specs.declared.kinds.HostText.TheVariants as of_host
 use Rattle.ps_texts.specs.declared.kinds.NamedText.TheVariants as of_named
 use Rattle.ps_texts.specs.declared.kinds.ReportText.{ReportText}
 use Rattle.ps_texts.specs.declared.kinds.TextKind.{TextKind}
@@ -254,6 +256,13 @@ shown_slot false Mixed f e =
 shown_whole : (host : List ℕ) (f : Fault) → show_fault host ≡ Some f → f.slot ≡ None
 shown_whole host f e = shown_slot (nat_lt (length host) block_len) (file_order host) f e
 
+-- a file is refused as one that cannot be shown
+unshown : (host : List ℕ) (what : HostText) (f : Fault) → HostCanRefuse what host f
+    → show_fault host ≡ Some f
+unshown host (of_host.Show form) f h = h
+unshown host of_host.Had f h = h
+unshown host of_host.CodeType f h = absurd h
+
 -- and has no name, whatever the libraries are
 same_name : (host : List ℕ) (libs : List (List ℕ)) (f : Fault) → f.slot ≡ None
     → fault_name host [] f ≡ fault_name host libs f
@@ -298,8 +307,10 @@ module _ (names : List (List ℕ)) (host : List ℕ) (libs : List (List ℕ)) wh
   host_refused : (k : TextKind) (r : Refusal) → is_of_host k ≡ true → IsRefusedFor k host [] r
       → IsRefusedFor k host libs r
   host_refused (kind.OfLink what form) r alone h = absurd (true≢false (sym alone))
-  host_refused (kind.OfHost what) r alone h =
-      (h.0, h.1 ∙ same_name host libs r.fault (shown_whole host r.fault h.0))
+  host_refused (kind.OfHost what) r alone h = (
+    h.0,
+    h.1 ∙ same_name host libs r.fault (shown_whole host r.fault (unshown host what r.fault h.0)),
+  )
   host_refused kind.Wanted r alone h = absurd (true≢false (sym alone))
   host_refused (kind.Named what) r alone h = absurd (true≢false (sym alone))
 

@@ -11,7 +11,7 @@ use Rattle.ps_texts.specs.declared.kinds.ReportText.{ReportText}
 use Rattle.ps_texts.specs.declared.kinds.ReportText.TheVariants as of_report
 use Rattle.ps_texts.specs.declared.kinds.TextKind.{TextKind}
 use Rattle.ps_texts.specs.declared.kinds.TextKind.TheVariants as kind
-use Rattle.ps_c_texts.specs.declared.kinds.TheConstants.{JSON, TEXT_CHECK, TEXT_FINDINGS, TEXT_HAD, TEXT_LIST, TEXT_MAP, TEXT_REFERENCES, TEXT_SHOW, TEXT_UNITS, TEXT_WANTED}
+use Rattle.ps_c_texts.specs.declared.kinds.TheConstants.{JSON, TEXT_CHECK, TEXT_FINDINGS, TEXT_HAD, TEXT_LIST, TEXT_MAP, TEXT_REFERENCES, TEXT_SHOW, TEXT_TYPE, TEXT_UNITS, TEXT_WANTED}
 
 -- how files are listed in this form
 abbrev pub list_in : Form → ListForm
@@ -23,7 +23,7 @@ abbrev pub units_in : Form → ListForm
 units_in form.Lines = list.Units
 units_in form.Json = list.JsonUnits
 
--- the text of this number in this form, but for names of units
+-- the text of this number in this form, of those that have a document
 abbrev pub kind_in : ℕ → Form → Option TextKind
 kind_in what how =
     if what == TEXT_MAP then Some (kind.OfLink of_link.Map how)
@@ -40,6 +40,7 @@ abbrev pub text_kind : ℕ → Option TextKind
 text_kind what =
     if what == TEXT_WANTED then Some kind.Wanted
     else if what == TEXT_HAD then Some (kind.OfHost of_host.Had)
+    else if what == TEXT_TYPE then Some (kind.OfHost of_host.CodeType)
     else if nat_lt what JSON then kind_in what form.Lines
     else kind_in (what - JSON) form.Json
 

@@ -51,6 +51,11 @@ pub const TEXT_WANTED: u32 = 7;
 /// The units whose code the first file has, by slot.
 pub const TEXT_HAD: u32 = 8;
 
+/// What the first file is for, and its byte order: a word for each, as `library little`. The first word is
+/// `host`, `library`, `linked` or `mixed`, which is a file that has linked segments and others and no host
+/// program. The second is `little` or `big`. Of any other file the line is `other`.
+pub const TEXT_TYPE: u32 = 9;
+
 /// What is added to the number of a text whose form is a JSON document.
 pub const JSON: u32 = 256;
 
@@ -74,7 +79,7 @@ fn units_in(form: Form) -> ListForm
     }
 }
 
-/// The text of this number in this form, but for names of units.
+/// The text of this number in this form, of those that have a document.
 fn kind_in(what: u32, form: Form) -> Option<TextKind>
     ensures { result ≡ kind_in_spec what form }
 {
@@ -91,13 +96,14 @@ fn kind_in(what: u32, form: Form) -> Option<TextKind>
 }
 
 /// The text of this number, to which `JSON` is added for a document; `None` where there is no such
-/// text. Names of units have no document.
+/// text. Names of units and the type of a file have no document.
 pub fn text_kind(what: u32) -> Option<TextKind>
     ensures { result ≡ text_kind_spec what }
 {
     match what {
         TEXT_WANTED => Some(TextKind::Wanted),
         TEXT_HAD => Some(TextKind::OfHost(HostText::Had)),
+        TEXT_TYPE => Some(TextKind::OfHost(HostText::CodeType)),
         _ => {
             if what < JSON {
                 kind_in(what, Form::Lines)

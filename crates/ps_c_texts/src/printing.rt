@@ -206,7 +206,7 @@ fn nameless<A: Allocator + Copy>(
 }
 
 /// Puts a text of a host and the libraries that are one after another in `libs` in the room, as the
-/// program prints it, or names of units.
+/// program prints it, or names of units, or the line of what a file is.
 ///
 /// `names` has the names of the files in the text, one after another, and `name_lengths` the length
 /// of each, that of the host first; a text in which the files have no names does not look at these.

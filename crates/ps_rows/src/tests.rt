@@ -4,6 +4,7 @@ mod allocations;
 mod answers;
 mod calls;
 mod changed_bytes;
+mod code_types;
 mod cuts;
 mod dictionary;
 mod failing_texts;

@@ -1,4 +1,5 @@
 pub mod UnitNames
+pub mod CodeTypes
 pub mod Kinds
 pub mod Texts
 pub mod Unmade

@@ -13,6 +13,7 @@ use Rattle.ps_report.specs.Reported.{Reported, reported, said, warning_count}
 use Rattle.ps_report.specs.Reports.{IsReport, printed_findings, printed_report}
 use Rattle.ps_report.specs.Verdicts.{check_status}
 use Rattle.ps_report.specs.declared.verdict.Verdict.{Verdict}
+use Rattle.ps_texts.specs.CodeTypes.{code_type, type_line}
 use Rattle.ps_texts.specs.UnitNames.{bytes_of, names_had, names_wanted}
 use Rattle.ps_texts.specs.declared.kinds.HostText.{HostText}
 use Rattle.ps_texts.specs.declared.kinds.HostText.TheVariants as of_host
@@ -43,12 +44,13 @@ abbrev pub link_text : LinkText → Form → List ℕ → List (List ℕ) → Li
 link_text of_link.Map form host libs = map_text form host libs
 link_text of_link.References form host libs = references_text form host libs
 
--- the text of a file that can be read
+-- the text of a file that can be read, and the line of any
 abbrev pub IsHostText : HostText → List ℕ → List ℕ → Type 0
 IsHostText (of_host.Show form) host text =
     (show_fault host ≡ None) × (text ≡ show_as form host)
 IsHostText of_host.Had host text =
     (names : List (List ℕ)) × (names_had host ≡ Ok names) × (text ≡ bytes_of names)
+IsHostText of_host.CodeType host text = text ≡ type_line (code_type host)
 
 -- what is printed of a report
 abbrev pub report_bytes : ReportText → Form → Reported → List ℕ
@@ -99,6 +101,7 @@ bytes_in (text.Show form file) = show_as form file
 bytes_in (text.Report what form report) = report_bytes what form (reported report)
 bytes_in (text.Lists lists) = lists_in lists.how lists.files.items
 bytes_in (text.Names names) = bytes_of names.items
+bytes_in (text.CodeType found) = type_line found
 
 -- what a process that prints it ends with
 abbrev pub status_in : {A : Type 0} → Bool → FilesText A → ℕ

@@ -25,11 +25,17 @@ IsFirstOf host libs f = IsFirst host libs f × HasItsParts (order_of host) host 
 abbrev pub HasNoNames : Result (List (List ℕ)) Reason → Fault → Type 0
 HasNoNames found f = (why : Reason) × (found ≡ Err why) × (f ≡ in_file 0 why)
 
--- why these files are refused: a text of the host's file alone is made of each file that can be
--- shown, and one in which they have names of any files
+-- why the host's file is refused: what it has is told of each file that can be shown, and its type of
+-- any
+abbrev pub HostCanRefuse : HostText → List ℕ → Fault → Type 0
+HostCanRefuse (of_host.Show form) host f = show_fault host ≡ Some f
+HostCanRefuse of_host.Had host f = show_fault host ≡ Some f
+HostCanRefuse of_host.CodeType host f = ⊥
+
+-- why these files are refused: a text in which they have names is made of any files
 abbrev pub CanRefuse : TextKind → List ℕ → List (List ℕ) → Fault → Type 0
 CanRefuse (kind.OfLink what form) host libs f = IsFirstOf host libs f
-CanRefuse (kind.OfHost what) host libs f = show_fault host ≡ Some f
+CanRefuse (kind.OfHost what) host libs f = HostCanRefuse what host f
 CanRefuse kind.Wanted host libs f = HasNoNames (names_wanted host libs) f
 CanRefuse (kind.Named what) host libs f = ⊥
 
@@ -37,10 +43,12 @@ CanRefuse (kind.Named what) host libs f = ⊥
 abbrev pub IsRefusedFor : TextKind → List ℕ → List (List ℕ) → Refusal → Type 0
 IsRefusedFor k host libs r = CanRefuse k host libs r.fault × HasItsName host libs r
 
--- memory is requested for names of units only where there is one, and for a show not at all
+-- memory is requested for names of units only where there is one, and for a show and a type not at
+-- all
 abbrev pub HostCanLackMemory : HostText → List ℕ → Type 0
 HostCanLackMemory (of_host.Show form) host = ⊥
 HostCanLackMemory of_host.Had host = HasNames (names_had host)
+HostCanLackMemory of_host.CodeType host = ⊥
 
 -- and for a text of a link only once the files were read and have no fault
 abbrev pub CanLackMemory : TextKind → List ℕ → List (List ℕ) → Type 0

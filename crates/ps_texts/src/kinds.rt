@@ -34,6 +34,8 @@ pub enum HostText {
     Show(Form),
     /// The names of the units whose code the file has.
     Had,
+    /// What the file is for, and its byte order, in a line.
+    CodeType,
 }
 
 /// A text in which files have names.

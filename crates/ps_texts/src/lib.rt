@@ -3,11 +3,13 @@
 //! and `in_memory` keeps.
 #![tactic(auto)]
 
+mod code_type;
 mod kinds;
 mod texts;
 mod units;
 mod wanted_law;
 
+pub use code_type::CodeType;
 pub use kinds::{HostText, LinkText, NamedText, ReportText, TextKind};
 pub use ps_check_segments::NamedFiles;
 pub use ps_linkfile::{Refusal, Unmade};

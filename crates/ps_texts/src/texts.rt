@@ -8,14 +8,16 @@ ghost use Rattle.ps_linkfile.specs.declared.unmade.Unmade.TheVariants.{Refused};
 ghost use Rattle.ps_check_segments.specs.Paths.{paths_in};
 ghost use Rattle.ps_report.specs.Reported.{reported};
 ghost use Rattle.ps_writing.specs.Adding.{Adds};
+ghost use Rattle.ps_texts.specs.CodeTypes.{code_type, type_line};
 ghost use Rattle.ps_texts.specs.Texts.{IsMadeOf, bytes_in, report_bytes};
 ghost use Rattle.ps_texts.specs.UnitNames.{HasNames, bytes_of, had_in, wanted_in as wanted_in_spec};
 ghost use Rattle.ps_texts.specs.Unmade.{WhyUnmade};
-ghost use Rattle.ps_texts.specs.declared.kinds.HostText.TheVariants.{Had, Show as ShowOf};
+ghost use Rattle.ps_texts.specs.declared.kinds.HostText.TheVariants.{CodeType as TypeOf, Had, Show as ShowOf};
 ghost use Rattle.ps_texts.specs.declared.kinds.LinkText.TheVariants.{Map as MapOf, References as ReferencesOf};
 ghost use Rattle.ps_texts.specs.declared.kinds.NamedText.TheVariants.{List as Listed, OfReport};
 ghost use Rattle.ps_texts.specs.declared.kinds.TextKind.TheVariants.{Named, OfHost, OfLink, Wanted};
 
+use crate::code_type::{CodeType, add_type_line, code_type_of};
 use crate::kinds::{HostText, LinkText, NamedText, ReportText, TextKind};
 use crate::units::{units_had, units_wanted};
 use ps_check_segments::NamedFiles;
@@ -48,6 +50,8 @@ pub enum FilesText<'a, A: Allocator + Copy = Global> {
     Lists(Lists<'a, A>),
     /// Names of units.
     Names(Vec<Name, A>),
+    /// What a file is for, and its byte order, where it is a code file as it ought to be.
+    CodeType(Option<CodeType>),
 }
 
 impl<A: Allocator + Copy> Text for FilesText<'_, A> {
@@ -74,6 +78,7 @@ impl<A: Allocator + Copy> Text for FilesText<'_, A> {
             .add_to(text),
             FilesText::Lists(lists) => lists.add_to(text),
             FilesText::Names(names) => add_names(text, names.as_slice()),
+            FilesText::CodeType(found) => add_type_line(text, *found),
         }
     }
 }
@@ -344,6 +349,7 @@ fn host_text<'a, A: Allocator + Copy>(
     match what {
         HostText::Show(form) => show_of(form, files),
         HostText::Had => had_of(alloc, files),
+        HostText::CodeType => Ok(FilesText::CodeType(code_type_of(files.host))),
     }
 }
 
@@ -368,7 +374,7 @@ fn named_text<'a, A: Allocator + Copy>(
 /// report and a list have their paths. Refuses `Refused`, a map and its references with the first fault
 /// of all, a show and names of units where the host's file cannot be read; nothing else is refused. And
 /// `Memory` where memory was refused, which a map requests only once the files were read and have no
-/// fault, names of units only where there is one, and a show never.
+/// fault, names of units only where there is one, and a show and the type of a file never.
 pub fn text_of<'a, A: Allocator + Copy>(
     alloc: A,
     kind: TextKind,

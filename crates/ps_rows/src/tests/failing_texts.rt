@@ -11,7 +11,7 @@ use std::io::Write;
 use std::process::Abort;
 
 /// Each text that there is, in each form.
-static KINDS: [TextKind; 15] = [
+static KINDS: [TextKind; 16] = [
     TextKind::OfLink(LinkText::Map, Form::Lines),
     TextKind::OfLink(LinkText::Map, Form::Json),
     TextKind::OfLink(LinkText::References, Form::Lines),
@@ -27,6 +27,7 @@ static KINDS: [TextKind; 15] = [
     TextKind::Named(NamedText::List(ListForm::Units)),
     TextKind::Wanted,
     TextKind::OfHost(HostText::Had),
+    TextKind::OfHost(HostText::CodeType),
 ];
 
 /// How many bytes a write takes at most: few, so that a text takes many writes, or all.

@@ -48,6 +48,9 @@ behind-another | HOST | LIBRARY ZEROS_IN_THE_CODE; LIBRARY \
 linked-host | LINKED_SEGMENTS LINKED_OPERANDS | LIBRARY |
 linked-host-alone | LINKED_SEGMENTS LINKED_OPERANDS | |
 linked-in-place | LINKED_SEGMENTS LINKED_REFERENCE | |
+# libraries in place of hosts
+library-alone | LIBRARY | |
+libraries-joined | LIBRARY HAS_AUX | |
 # libraries with faults, of which the first is reported: a length and then an order, the first that
 # has the name, and a linked file that has it
 short-and-turned | HOST | LIBRARY; LIBRARY SHORT; turned LIBRARY |
