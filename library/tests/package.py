@@ -38,7 +38,9 @@ import pslink  # noqa: E402
 from descriptions.links import unit_of  # noqa: E402
 from descriptions.model import File, unit_ref, written  # noqa: E402
 
-HOST, LIBRARY, USING, USED, BOTH = (ROOT / f"samples/{name}.code" for name in ("host", "library", "using", "used", "two_units"))
+HOST, LIBRARY, USING, USED, BOTH = (ROOT / f"samples/{name}.code"
+                                    for name in ("host", "library", "using", "used", "two_units"))
+BIG_LIBRARY = ROOT / "samples/big_library.code"
 UTIL, AUX = "UTIL", "AUX"
 NAMED = {UTIL: b"UTIL    ", AUX: b"AUX     "}
 # where the library says how many words the private variable of record 1 has
@@ -304,8 +306,37 @@ def of_names_of_units():
     check(sorted(pslink.units_had(BOTH)) == [AUX, UTIL],
           f"{BOTH.name} has {pslink.units_had(BOTH)}")
     for call in (pslink.units_wanted, pslink.units_had):
-        check(raised(pslink.Refused, call, b"").number == 1, f"{call.__name__} takes a file of nothing")
-        check(raised(pslink.Refused, call, changed(HOST, at192=b"\1\1")).number == 2, f"{call.__name__} takes a file of both orders")
+        check(raised(pslink.Refused, call, b"").number == 1,
+              f"{call.__name__} takes a file of nothing")
+        check(raised(pslink.Refused, call, changed(HOST, at192=b"\1\1")).number == 2,
+              f"{call.__name__} takes a file of both orders")
+
+
+def of_types():
+    """What each file is for, and its byte order, whatever its bytes are. (A library with a linked
+    segment has its slot 3, with the code of slot 2.)"""
+    library = LIBRARY.read_bytes()
+    mixed = changed(LIBRARY, at12=library[8:12], at88=b"OTHER   ")
+    of_file = [
+        ("the host", HOST, ("host", "little")), ("the library", LIBRARY, ("library", "little")),
+        ("a host with its units", BOTH, ("host", "little")),
+        ("a linked file", pslink.link(HOST, [LIBRARY]), ("linked", "little")),
+        ("a library with a linked segment", mixed, ("mixed", "little")),
+        ("the big-endian host", ROOT / "samples/big_host.code", ("host", "big")),
+        ("the big-endian library", BIG_LIBRARY, ("library", "big")),
+        ("a file of nothing", b"", (None, None)),
+        ("a text", ("DEMO.TEXT", b"PROGRAM DEMO;\n"), (None, None)),
+        ("a short file", library[:511], (None, None)),
+        ("a file of both orders", changed(LIBRARY, at192=b"\1\1"), (None, None)),
+    ]
+    for what, file, wanted in of_file:
+        found_type = pslink.file_type(file)
+        check(type(found_type) is pslink.FileType and found_type == wanted,
+              f"{what} is {found_type}")
+        check((found_type.contents, found_type.order) == wanted,
+              f"{what} has the parts {found_type}")
+    check(raised(FileNotFoundError, pslink.file_type, "not there"),
+          "a path that is not there has a type")
 
 
 def of_texts():
@@ -560,7 +591,9 @@ def of_other_answers():
 
 
 def main():
-    for part in (of_files, of_reports, of_refusals, of_what_is_at_fault, of_bytes_of_names, of_paths_of_findings, of_names_of_units, of_texts, of_names, of_hints, of_threads, of_room, of_archive, of_installing, of_other_answers):
+    for part in (of_files, of_reports, of_refusals, of_what_is_at_fault, of_bytes_of_names,
+                 of_paths_of_findings, of_names_of_units, of_types, of_texts, of_names, of_hints,
+                 of_threads, of_room, of_archive, of_installing, of_other_answers):
         part()
     for line in found:
         print(line)

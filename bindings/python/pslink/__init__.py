@@ -27,8 +27,9 @@ if TYPE_CHECKING:
 
 # (`map` is not among them, so that `import *` keeps Python's own)
 __all__ = [
-    "File", "Finding", "Refused", "Report", "Summary", "Text", "check", "fault_meaning", "fault_name", "fault_remedy", "link",
-    "link_with_summary", "release_number", "show", "text",
+    "File", "FileType", "Finding", "Refused", "Report", "Summary", "Text", "check", "fault_meaning",
+    "fault_name", "fault_remedy",
+    "file_type", "link", "link_with_summary", "release_number", "show", "text",
     "units_wanted", "units_had",
 ]
 __version__ = "0.4.0"
@@ -264,6 +265,17 @@ class Summary(NamedTuple):
     blocks: int
 
 
+class FileType(NamedTuple):
+    """What a file is for, and its byte order.
+
+    contents: 'host'; 'library'; 'linked'; or 'mixed', which has linked segments and others and no
+    host program. order: 'little' or 'big'. Both are None of a file that is no code file.
+    """
+
+    contents: Optional[str]
+    order: Optional[str]
+
+
 class Finding(NamedTuple):
     """What a check finds in files and is no fault.
 
@@ -488,6 +500,15 @@ def show(file: File) -> str:
     """What a code file has, of any contents, as text. Raises Refused with fault 1 or 2 only; else
     what `link` raises."""
     return text("show", file)
+
+
+def file_type(file: File) -> FileType:
+    """What a file of any contents is for, and its byte order, as FileType('library', 'little').
+    Raises what `link` raises but Refused; and ValueError over a library of release 0.4.0 or an
+    earlier one, which has no such text."""
+    line, _ = _Files(file).text(_PLAIN["type"])
+    words = line.split()
+    return FileType(*words) if len(words) == 2 else FileType(None, None)
 
 
 # made by man/make_constants.py from crates/ps_c_texts/src/kinds.rt: the names of units
