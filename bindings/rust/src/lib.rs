@@ -13,12 +13,14 @@
 //! ```
 
 mod file;
+mod file_type;
 mod finding;
 mod name;
 mod raw;
 mod reason;
 
 pub use file::File;
+pub use file_type::{FileType, Order};
 pub use finding::{Finding, Weight};
 pub use name::Name;
 pub use reason::Reason;
@@ -503,6 +505,16 @@ pub fn units_had<'a>(file: impl Into<File<'a>>) -> Result<Vec<Name>, Error> {
 /// [`Error::Refused`] with [`Reason::ShortFile`] or [`Reason::NoOrder`]; else as of [`link`].
 pub fn show<'a>(file: impl Into<File<'a>>) -> Result<String, Error> {
     text(Text::Show, Form::Lines, file, [])
+}
+
+/// What a file of any contents is for, and its byte order.
+///
+/// # Errors
+/// Those of [`link`], but [`Error::Refused`]; and [`Error::NoText`] over an archive of release 0.4.0 or
+/// of an earlier one.
+pub fn file_type<'a>(file: impl Into<File<'a>>) -> Result<FileType, Error> {
+    let (line, _) = Files::new(file, []).bytes_of(TYPE)?;
+    FileType::of_line(&line).ok_or(Error::Unknown(DONE))
 }
 
 /// The release of the archive as a number to compare, as 300 for 0.3.0: 10000 times its first part,

@@ -1,6 +1,9 @@
 //! The calls over samples, which lie beside this file: the crate can be copied by itself.
 
-use pslink::{Error, Fault, File, Finding, Form, Name, Reason, Summary, Text, Weight};
+use pslink::{
+    Error, Fault, File, FileType, Finding, Form, Name, Order, Reason, Summary, Text, Weight,
+};
+use std::borrow::Cow;
 use std::collections::HashSet;
 
 /// Where the library says how many words the private variable of record 1 has.
@@ -354,6 +357,64 @@ fn the_units_of_a_host_and_of_a_library_are_named() {
     let linked = pslink::link(&host, [sample("library.code").into()]).unwrap();
     assert!(pslink::units_wanted(&linked, []).unwrap().is_empty());
     assert!(pslink::units_had(&linked).unwrap().is_empty());
+}
+
+/// A file with the words of its dictionary in the other byte order.
+fn turned(mut file: Vec<u8>) -> Vec<u8> {
+    for at in (0..64).chain(192..224).step_by(2) {
+        file.swap(at, at + 1);
+    }
+    file
+}
+
+#[test]
+fn each_file_has_its_type() {
+    let (host, library) = (sample("host.code"), sample("library.code"));
+    let linked = pslink::link(&host, [(&library).into()]).unwrap();
+    // Slot 3 has the code of slot 2, and the kind 0.
+    let mut mixed = library.clone();
+    mixed.copy_within(8..12, 12);
+    mixed[88..96].copy_from_slice(b"OTHER   ");
+    let types: [(&[u8], FileType, &str); 9] = [
+        (&host, FileType::Host(Order::Little), "host little"),
+        (&library, FileType::Library(Order::Little), "library little"),
+        (&linked, FileType::Linked(Order::Little), "linked little"),
+        (&mixed, FileType::Mixed(Order::Little), "mixed little"),
+        (
+            &turned(host.clone()),
+            FileType::Host(Order::Big),
+            "host big",
+        ),
+        (
+            &turned(library.clone()),
+            FileType::Library(Order::Big),
+            "library big",
+        ),
+        (&host[..511], FileType::Other, "other"),
+        (b"PROGRAM DEMO;\n", FileType::Other, "other"),
+        (b"", FileType::Other, "other"),
+    ];
+    for (file, wanted, words) in types {
+        let file_type = pslink::file_type(file).unwrap();
+        assert_eq!((file_type, file_type.to_string().as_str()), (wanted, words));
+    }
+}
+
+#[test]
+fn a_library_is_one_for_a_host_of_its_byte_order() {
+    let (little, big) = (Order::Little, Order::Big);
+    let host = FileType::Host(little);
+    for libraries in [FileType::Library, FileType::Mixed] {
+        assert!(libraries(little).is_library_for(host));
+        assert!(!libraries(big).is_library_for(host));
+        assert!(libraries(big).is_library_for(FileType::Host(big)));
+        assert!(!libraries(little).is_library_for(FileType::Other));
+    }
+    for other in [host, FileType::Linked(little), FileType::Other] {
+        assert!(!other.is_library_for(host));
+    }
+    assert_eq!(FileType::Linked(big).order(), Some(big));
+    assert_eq!(FileType::Other.order(), None);
 }
 
 #[test]
