@@ -56,6 +56,9 @@
  * @property {Uint8Array} [bytes] where it is done: the linked file, or the bytes of the text
  * @property {string} [text] where a text is done
  * @property {string[]} [names] where names of units are done: eight characters each, one a byte
+ * @property {"host" | "library" | "linked" | "mixed" | null} [contents] where the type of a file is
+ * done: what a code file is for
+ * @property {"little" | "big" | null} [order] and its byte order
  * @property {string} [fault] the line of the fault, as "refused 13 MissingUnit file 0 slot 7"
  * @property {string} [reason] where the module trapped: what the engine says of it
  */
@@ -293,7 +296,21 @@ class Linker {
   async units(kind, files) {
     return answered(async () => {
       const result = await this.#text(isOfNames(kind) ? kind : null, files, false);
-      return result.done ? {...result, names: characters(result.bytes).match(/.{8}/gs) ?? []} : result;
+      return result.done ? {...result, names: characters(result.bytes).match(/.{8}/gs) ?? []} :
+                           result;
+    });
+  }
+
+  /**
+   * What a file of any contents is for, and its byte order; both are null of a file that is no code
+   * file.
+   * @param {CodeFile} file
+   * @returns {Promise<Result>} with `bytes`, `contents` and `order`
+   */
+  async fileType(file) {
+    return answered(async () => {
+      const result = await this.#text("type", [file], false);
+      return result.done ? {...result, ...typeIn(characters(result.bytes))} : result;
     });
   }
 
@@ -519,6 +536,12 @@ function nameOf(name, k) {
 const partOf = (number) => number < 0 ? null : number;
 
 const isOfNames = (kind) => OF_NAMES.includes(kind);
+
+/** What a line of a type has, as "library little\n". */
+function typeIn(line) {
+  const [, contents = null, order = null] = /^(\w+) (\w+)\n$/.exec(line) ?? [];
+  return {contents, order};
+}
 
 /** Bytes as characters, one for each. */
 const characters = (bytes) => String.fromCharCode(...bytes);

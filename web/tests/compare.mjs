@@ -50,17 +50,30 @@ function checkBeside(what, result, encoding) {
 
 async function checkUnits(pslink, what, kind, files, text) {
   const {done, names} = await pslink.units(kind, files);
-  checks.is(`${what}: the names`, done ? names.join("") === text && names.every((name) => name.length === 8) : text === undefined && names === undefined);
+  checks.is(`${what}: the names`,
+    done ? names.join("") === text && names.every((name) => name.length === 8) :
+           text === undefined && names === undefined);
+}
+
+async function checkType(pslink, what, file, text) {
+  const {done, contents, order} = await pslink.fileType(file);
+  checks.is(`${what}: the type`,
+    done && text === (contents === null && order === null ? "other\n" : `${contents} ${order}\n`));
 }
 
 async function checkAnswer(pslink, set, name, files) {
   const what = `${set.name}: ${name}`, [kind, form] = name.split(" ");
-  // (names of units have no document)
-  const isLink = kind === "link", isOfNames = set.answers[`${kind} json`]?.[0] === MISUSE;
-  const result = isLink ? await pslink.link(files) : await pslink.text(kind, files, {json: form === "json"});
+  // (names of units and the type of a file have no document)
+  const isLink = kind === "link", isPlain = set.answers[`${kind} json`]?.[0] === MISUSE;
+  const result =
+    isLink ? await pslink.link(files) : await pslink.text(kind, files, {json: form === "json"});
   checks.same(what, told(result), set.answers[name]);
-  checkBeside(what, result, isLink ? null : isOfNames ? "latin1" : "utf8");
-  if (isOfNames && !form) await checkUnits(pslink, what, kind, files, result.text);
+  checkBeside(what, result, isLink ? null : isPlain ? "latin1" : "utf8");
+  if (!isPlain || form) return;
+  if (kind === "type")
+    await checkType(pslink, what, files[0], result.text);
+  else
+    await checkUnits(pslink, what, kind, files, result.text);
 }
 
 async function checkSet(pslink, set) {
