@@ -5,6 +5,7 @@ use pslink::{
 };
 use std::borrow::Cow;
 use std::collections::HashSet;
+use std::rc::Rc;
 
 /// Where the library says how many words the private variable of record 1 has.
 const WORDS_OF_STATE: usize = 1024 + 32 + 14;
@@ -126,11 +127,29 @@ fn files_are_anything_with_bytes() {
         .unwrap(),
         linked
     );
+    let shared: Rc<[u8]> = library.as_slice().into();
+    assert_eq!(pslink::link(&host, [File::of(&shared)]).unwrap(), linked);
+    let array = <&[u8; 1536]>::try_from(library.as_slice()).unwrap();
+    assert_eq!(pslink::link(&host, [array.into()]).unwrap(), linked);
+    let borrowed = Cow::Borrowed(library.as_slice());
+    assert_eq!(pslink::link(&host, [(&borrowed).into()]).unwrap(), linked);
     assert_eq!(
         pslink::link(("a", host), [(String::from("b"), library).into()]).unwrap(),
         linked
     );
     assert!(pslink::link(sample("two_units.code"), []).is_ok());
+}
+
+#[test]
+fn a_pair_that_is_kept_is_a_file() {
+    let host: (String, Vec<u8>) = ("HOST".into(), sample("host.code"));
+    let libs = [(String::from("LIB1"), sample("library.code"))];
+    let linked = pslink::link(&host, libs.iter().map(File::from)).unwrap();
+    assert_eq!(pslink::link(&host.1, [(&libs[0].1).into()]), Ok(linked));
+    assert_eq!(refused(pslink::link(&host, [])).path, "HOST");
+    let report = pslink::check(&host, [(&libs[0]).into()]).unwrap();
+    let lines = "file 0 HOST: 1536 bytes, little-endian\nfile 1 LIB1: 1536 bytes, little-endian\n";
+    assert!(report.text.starts_with(lines), "{}", report.text);
 }
 
 #[test]
