@@ -1,8 +1,10 @@
 #!/usr/bin/env python3
-"""Writes the examples of programs to a folder, for .ci/library to compile and run: header.c of include/pslink.h, whose function
-gets a main; embedding.c and CMakeLists.txt of docs/EMBEDDING.md, embedding.py of docs/PYTHON.md and embedding.rs of docs/RUST.md, and
-report.c, found.c and found.py, whose functions get a main too; manual.c of man/pslink.3; and declarations.c, the declarations of that page. Prints where the page's
-types are not those of the header. Usage: examples.py FOLDER"""
+"""Writes the examples of programs to a folder, for .ci/library to compile and run: header.c of
+include/pslink.h, whose function gets a main; embedding.c and CMakeLists.txt of docs/EMBEDDING.md,
+embedding.py of docs/PYTHON.md and embedding.rs of docs/RUST.md, and report.c, found.c, found.py,
+shelf.c, shelf.py and shelf.rs, whose functions get a main too; manual.c of man/pslink.3; and
+declarations.c, the declarations of that page. Prints where the page's types are not those of the
+header. Usage: examples.py FOLDER"""
 import pathlib
 import re
 import shlex
@@ -13,7 +15,8 @@ HEADER = (ROOT / "include/pslink.h").read_text()
 PAGE = (ROOT / "man/pslink.3").read_text()
 ENDINGS = {"c": ".c", "python": ".py", "rust": ".rs"}
 # functions of examples, which get the main of this name beside, and the example's name
-FUNCTIONS = {"show_report": "report", "link_found": "found"}
+FUNCTIONS = {"show_report": "report", "link_found": "found", "keep_libraries": "shelf",
+             "link_folder": "shelf"}
 
 
 def of_header():

@@ -8,14 +8,28 @@ static unsigned char bytes[FILES][1 << 16];
 static pslink_file shelf[FILES];
 static size_t count;
 
-/* The first file behind the host that has the unit of this name. */
+/* Whether the type of a file names this byte order, as " little\n", and it is no linked file. */
+static int is_of_order(const pslink_file *file, const char *order)
+{
+    char type[16];
+    pslink_answer answer;
+    const size_t length = strlen(order);
+
+    return pslink_text(PSLINK_TYPE, file, 1, type, sizeof type, &answer) == PSLINK_DONE && answer.size > length &&
+           memcmp(type + answer.size - length, order, length) == 0 && memcmp(type, "linked", 6) != 0;
+}
+
+/* The first file behind the host that has the unit of this name, in the host's byte order. */
 static int find(const char *name, pslink_file *library)
 {
+    const char *order = is_of_order(&shelf[0], " big\n") ? " big\n" : " little\n";
     char names[16][8];
     pslink_answer answer;
     size_t at, k;
 
     for (k = 1; k < count; k++) {
+        if (!is_of_order(&shelf[k], order))
+            continue;
         if (pslink_text(PSLINK_HAD, &shelf[k], 1, names, sizeof names, &answer) != PSLINK_DONE)
             continue;
         for (at = 0; at < answer.size / sizeof *names; at++) {
