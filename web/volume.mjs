@@ -15,6 +15,7 @@ const BLOCK = 512, SECTOR = 256, TRACK = 4096, TRACK_SECTORS = 16;
 const ENTRY = 26, DIRECTORY_BLOCKS = 4, FIRST_DIRECTORY = 2, DUPLICATE_DIRECTORY = 6,
       DUPLICATE_END = 10;
 const FILES_MAX = 77, VOLUME_NAME_MAX = 7, FILE_NAME_MAX = 15, BAD_BLOCKS_KIND = 1, CODE_KIND = 2;
+const UNCLOSED_YEAR = 100; // in the date of a file that a program made and never closed
 const TWO_IMG_HEADER = 64, DISK_COPY_HEADER = 84, DISK_COPY_CHECKSUM = 72;
 const DISK_TRACKS = [35, 40], NIBBLE_SIZES = [232960, 223440];
 
@@ -42,6 +43,7 @@ export class VolumeError extends Error {
  * @property {number} next the block after its last
  * @property {number} size its bytes
  * @property {DiskDate | null} date
+ * @property {boolean} isUnclosed whether a program made it and never closed it
  */
 
 /**
@@ -610,13 +612,19 @@ function isListed(entry) {
 function asFile({name, kind, first, next, lastBytes, date}) {
   const used = lastBytes >= 1 && lastBytes <= BLOCK ? lastBytes : BLOCK;
   const size = BLOCK * (next - first - 1) + used;
-  return Object.freeze({name, kind, kindName: KINDS[kind] ?? `kind ${kind}`, first, next, size, date: dateOf(date)});
+  const kindName = KINDS[kind] ?? `kind ${kind}`, isUnclosed = yearOf(date) === UNCLOSED_YEAR;
+  return Object.freeze({name, kind, kindName, first, next, size, date: dateOf(date), isUnclosed});
 }
 
-/** The day of a date word, null for none. A year below 70 is of this century. */
+function yearOf(word) {
+  return word >> 9;
+}
+
+/** The day of a date word, null for none. A year below 70 is of this century; 100 is no year. */
 function dateOf(word) {
-  const month = word & 15, day = (word >> 4) & 31, year = word >> 9;
+  const month = word & 15, day = (word >> 4) & 31, year = yearOf(word);
   if (month < 1 || month > 12 || day < 1) return null;
+  if (year === UNCLOSED_YEAR) return null;
   return {year: year < 70 ? 2000 + year : 1900 + year, month, day};
 }
 

@@ -43,8 +43,10 @@ ${STATUSES}`,
     {
       name: "list",
       about: "Prints a line of the volume and of each of its files",
-      ending: `Each line begins with the name of the image. A line with 'not sound: ' says why nothing
-can be put onto the volume. The status is then 1.
+      ending:
+        `Each line begins with the name of the image. A line with 'not sound: ' says why nothing
+can be put onto the volume. The status is then 1. A file that is 'never closed' is one
+that a program made and did not end with a close: it may lack its end.
 
 ${STATUSES}`,
       arguments: [IMAGE],
@@ -136,9 +138,10 @@ function list(image, value, streams) {
   return volume.flaws.length ? REFUSED : DONE;
 }
 
-function fileLine({name, kindName, first, next, size, date}) {
+function fileLine({name, kindName, first, next, size, date, isUnclosed}) {
   const day = date ? `, ${date.year}-${twoDigits(date.month)}-${twoDigits(date.day)}` : "";
-  return `${name} ${kindName}, ${size} bytes, blocks ${first} to ${next - 1}${day}`;
+  return `${name} ${kindName}, ${size} bytes, blocks ${first} to ${next - 1}${day}${
+    isUnclosed ? ", never closed" : ""}`;
 }
 
 function twoDigits(number) {

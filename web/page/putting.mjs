@@ -6,7 +6,7 @@ import {made} from "../elements.mjs";
 import {nameOfFile, nameWith, shownName} from "../names.mjs";
 import {VolumeError, openVolume} from "../volume.mjs";
 import {NOT_YET, baseOf, byId, count, hostOf, saveFile, say, state} from "./common.mjs";
-import {dayOf} from "./volume_box.mjs";
+import {whenOf} from "./volume_box.mjs";
 
 const CODE_FILE = 2, ENDING = ".L.CODE", BASE_MAX = 8; // a name has 15 characters at most
 
@@ -63,8 +63,9 @@ export function drawPutting() {
 function drawPlace() {
   const opened = targetVolume(), {volume} = lastOf(opened), name = byId("put-name").value;
   const {old, refusal} = placeOf(volume, name);
-  const where = old ? `In place of ${shownName(old.name)}, ${count(old.size, "byte")}, ${dayOf(old.date)}.`
-    : `As a new file of ${shownName(volume.name)}.`;
+  const where = old ?
+    `In place of ${shownName(old.name)}, ${count(old.size, "byte")}, ${whenOf(old)}.` :
+    `As a new file of ${shownName(volume.name)}.`;
   byId("put-what").textContent = refusal ?? where;
   byId("put-what").className = refusal ? "bad" : "quiet";
   byId("put").disabled = Boolean(refusal);

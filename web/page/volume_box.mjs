@@ -16,8 +16,11 @@ const partsOfVolume = ({format, bigEndian, blocks, freeBlocks, duplicate}) => [f
 const dateParts = ({year, month, day}) => [year, month, day];
 
 /** A day of a directory in words. */
-export const dayOf = (date) => date
-  ? dateParts(date).map((part) => String(part).padStart(2, "0")).join("-") : "no date";
+const dayOf = (date) =>
+  date ? dateParts(date).map((part) => String(part).padStart(2, "0")).join("-") : "no date";
+
+/** The day of a file, or that it was never closed. */
+export const whenOf = ({date, isUnclosed}) => isUnclosed ? "never closed" : dayOf(date);
 
 /** Whether an entry is a code file, by its kind or by what it has. */
 export const isCode = (entry) => entry.file.kind === CODE_FILE || hasCode(entry);
@@ -35,8 +38,8 @@ function entryLine(entry, of, {choose, save}) {
   entry.box = made("input", {type: "checkbox", disabled, onchange: () => choose(entry)});
   const kind = `${file.kindName}: ${what.replace(/(^|, )\d+ bytes, /, "$1")}`;
   const label = made("label", {}, entry.box, made("span", {className: "name"}, nameOf(file.name)),
-    part("size", count(file.size, "byte")), part("date", dayOf(file.date)),
-    part("what", kind), part("units", unitsOf(entry)));
+    part("size", count(file.size, "byte")), part("date", whenOf(file)), part("what", kind),
+    part("units", unitsOf(entry)));
   return made("li", {}, label, made("button", {
     type: "button",
     disabled,

@@ -54,8 +54,10 @@ def told(volume, form, notes=()):
 
 def told_file(volume, file):
     kind_name = volumes.KINDS[file.kind] if file.kind < len(volumes.KINDS) else f"kind {file.kind}"
-    return {"name": file.name, "kind": file.kind, "kindName": kind_name, "first": file.first, "next": file.next, "size": file.size(),
-            "date": volumes.date_told(file.date), "contents": hashlib.sha256(volume.contents(file)).hexdigest()}
+    return {"name": file.name, "kind": file.kind, "kindName": kind_name, "first": file.first,
+            "next": file.next, "size": file.size(),
+            "date": volumes.date_told(file.date), "isUnclosed": volumes.is_unclosed(file.date),
+            "contents": hashlib.sha256(volume.contents(file)).hexdigest()}
 
 
 def is_read_back(volume):
@@ -102,7 +104,23 @@ def sample(big=False, end=6, blocks=280, image_blocks=None, seed="sample"):
         File("NOTES.TEXT", 27, 31, 512, 3, 0, 0, filler(15)),
         File("SIX.DATA", 31, 32, 6, 5, date_of(1970, 2, 3), 0, filler(15)),
     ]
-    return Volume("DISK", blocks, files, marked(image_blocks or blocks, seed), end, big, filler(4 * BLOCK))
+    return Volume("DISK", blocks, files, marked(image_blocks or blocks, seed), end, big,
+                  filler(4 * BLOCK))
+
+
+def of_dates():
+    """Days at the ends of what a word can have, and files that were never closed, which have a year
+    of 100 and any day or none."""
+    word = lambda year, month, day: 512 * year + 16 * day + month
+    words = [word(99, 12, 31), word(100, 11, 29), word(100, 0, 0), word(100, 13, 31),
+             word(101, 1, 1), word(0, 1, 1), word(69, 12, 31), word(70, 0, 1), 0, 0xFFFF]
+    files = [File(f"FILE{number}.CODE", 10 + number, 11 + number, 512, 2, date)
+             for number, date in enumerate(words)]
+    unclosed = [number for number, file in enumerate(files) if volumes.is_unclosed(file.date)]
+    assert unclosed == [1, 2, 3]
+    for big in (False, True):
+        yield case(f"dates, big {big}", Volume("DATES", 40, files, marked(40, 3), 10, big),
+                   puts=[("FILE1.CODE", data(512, 1), 11), ("NEW.CODE", data(512, 2), 20)])
 
 
 def date_of(year, month, day):
@@ -513,9 +531,12 @@ def of_random(seed, count):
 
 
 def main():
-    seed, count = sys.argv[2] if len(sys.argv) > 2 else "1", int(sys.argv[3]) if len(sys.argv) > 3 else 200
-    parts = [of_formats(), of_sizes(), of_full(), of_duplicates(), of_names(), of_damage(), of_cut_images(), of_damaged_duplicates(False),
-             of_damaged_duplicates(True), of_former_duplicates(), of_others(), of_random(seed, count)]
+    seed, count = (sys.argv[2] if len(sys.argv) > 2 else "1",
+                   int(sys.argv[3]) if len(sys.argv) > 3 else 200)
+    parts = [of_formats(), of_sizes(), of_full(), of_duplicates(), of_names(), of_dates(),
+             of_damage(), of_cut_images(), of_damaged_duplicates(False),
+             of_damaged_duplicates(True), of_former_duplicates(), of_others(),
+             of_random(seed, count)]
     with open(sys.argv[1], "w", encoding="ascii") as file:
         file.writelines(json.dumps(made) + "\n" for made in itertools.chain(*parts))
 

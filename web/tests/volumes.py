@@ -95,9 +95,14 @@ def date_word(date):
     return date["year"] % 100 * 512 + date["day"] * 16 + date["month"]
 
 
+def is_unclosed(word):
+    """A file that was made and never closed has this in place of a year."""
+    return word // 512 == 100
+
+
 def date_told(word):
     year, day, month = word // 512, word // 16 % 32, word % 16
-    if day == 0 or month not in range(1, 13):
+    if day == 0 or month not in range(1, 13) or is_unclosed(word):
         return None
     return {"year": year + (2000 if year < 70 else 1900), "month": month, "day": day}
 
