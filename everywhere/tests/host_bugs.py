@@ -1,8 +1,13 @@
 #!/usr/bin/env python3
-"""Plants bugs in copies of the hosts of the command line, one in each, and sees that the commands of .ci/program, or the calls that fail
-in turn, tell it. Prints what told each, and each that nothing tells. It takes up to a minute for each, after everywhere/build.
-Usage: host_bugs.py [PART], of the bugs whose name has PART. host_bugs.py --texts only sees that each can be planted"""
+"""Plants bugs in copies of the hosts of the command line and of the crate over them, one in each,
+and sees that host_test.c or host_test.mjs, the calls that fail in turn, or the commands of
+.ci/program tell it. Prints what told each, and each that nothing tells. It takes seconds for each
+of a host, and minutes for each of the crate, which everywhere/build proves anew over the crates
+that the gate proved. Usage: host_bugs.py [PART], of the bugs whose name has PART. host_bugs.py
+--texts only sees that each can be planted"""
+import os
 import pathlib
+import shutil
 import subprocess
 import sys
 import tempfile
@@ -10,11 +15,18 @@ import tempfile
 TESTS = pathlib.Path(__file__).resolve().parent
 TOP = TESTS.parent.parent
 C, WEB, OUT = TESTS.parent / "c", TOP / "web", TESTS.parent / "out"
+FILES = TESTS.parent / "crates/host_files"
 WRAPPED = [f"-Wl,--wrap={name}" for name in "read write close open64 stat64 fstat64".split()]
-SANITIZED = ["-std=gnu11", "-O1", "-fsanitize=address,undefined", "-fno-sanitize-recover=undefined"]
+MINGW = ["x86_64-w64-mingw32-gcc", "-std=c11", "-D_WIN32_WINNT=0x0601", "-O2"]
+SANITIZED = ["gcc", "-std=gnu11", "-O1",
+             "-fsanitize=address,undefined", "-fno-sanitize-recover=undefined"]
 
 # What is wrong, the file, the text there, and the text in its place.
-UNIX, COMMON, WINDOWS, NODE = "host_unix.c", "host.c", "host_windows.c", "host.mjs"
+UNIX, COMMON, WINDOWS = "host_unix.c", "host.c", "host_windows.c"
+NODE, CRATE = "host.mjs", "lib.rt.txt"
+# (wine takes arguments by the locale)
+WINE = {"WINEDEBUG": "-all", "LC_ALL": "C.UTF-8"}
+HOMES = {UNIX: C, COMMON: C, WINDOWS: C, NODE: WEB, CRATE: FILES}
 BUGS = [
     ("a short read taken as whole", UNIX,
      "return count < 0 ? why(errno) : (int64_t)count;\n}\n\nint64_t host_write",
@@ -63,64 +75,219 @@ BUGS = [
     ("a missing file is one that may not be read", COMMON, "        return HOST_MISSING;",
      "        return HOST_FORBIDDEN;"),
     ("a folder is missing", COMMON, "        return HOST_FOLDER;", "        return HOST_MISSING;"),
-    ("a path with a 0 is cut there", COMMON, "    if (memchr(path, 0, length) != NULL)\n        return HOST_NO_PATH;\n", ""),
-    ("a path has no end", COMMON, "    text[length] = '\\0';\n", "    text[length] = 'x', text[length + 1] = '\\0';\n"),
-    ("text is written with CR LF", WINDOWS, "        _setmode(k, _O_BINARY);", "        _setmode(k, _O_TEXT);"),
-    ("files are read as text", WINDOWS, "flags | _O_BINARY | _O_NOINHERIT", "flags | _O_TEXT | _O_NOINHERIT"),
-    ("arguments are of the code page", WINDOWS, "WideCharToMultiByte(CP_UTF8, 0, wide, -1, text", "WideCharToMultiByte(CP_ACP, 0, wide, -1, text"),
-    ("a folder may not be read", WINDOWS, "        return HOST_FOLDER;\n    file", "        return HOST_FORBIDDEN;\n    file"),
-    ("/dev/stdin is no path", WINDOWS, 'INPUT_PATH[] = "/dev/stdin"', 'INPUT_PATH[] = "/dev/input"'),
-    ("no two names are one file", WINDOWS, "identify_path(other, other_length, &two) && are_one(&one, &two)", "0 && are_one(&one, &two)"),
-    ("node: a short read taken as whole", NODE, "attempt(() => readSync(Number(file), this.#bytes(room, size)))", "attempt(() => readSync(Number(file), this.#bytes(room, size)) && size)"),
-    ("node: a file that is there is not emptied", NODE, 'opened(this.#text(path, length), "w")', 'opened(this.#text(path, length), "a")'),
-    ("node: an argument that is no UTF-8 is U+FFFD", NODE, "Buffer.of(0xff)", 'Buffer.from("\\uFFFD")'),
-    ("node: a stream that takes none at the moment fails", NODE, 'if (error.code !== "EAGAIN") throw error;', "throw error;"),
-    ("node: no path leads to standard output", NODE, "statOf(this.#streams[OUTPUT])) ? 1 : 0", "null) ? 1 : 0"),
-    ("node: no two paths lead to one file", NODE, "one?.isFile() && areOne", "!one?.isFile() && areOne"),
-    ("node: memory that was given out is given out again", NODE, "    this.#free = end;\n    return place;", "    this.#free = place;\n    return place;"),
+    ("a path with a 0 is cut there", COMMON,
+     "    if (memchr(path, 0, length) != NULL)\n        return HOST_NO_PATH;\n", ""),
+    ("a path has no end", COMMON, "    text[length] = '\\0';\n",
+     "    text[length] = 'x', text[length + 1] = '\\0';\n"),
+    ("text is written with CR LF", WINDOWS, "        _setmode(k, _O_BINARY);",
+     "        _setmode(k, _O_TEXT);"),
+    ("files are read as text", WINDOWS, "flags | _O_BINARY | _O_NOINHERIT",
+     "flags | _O_TEXT | _O_NOINHERIT"),
+    ("arguments are of the code page", WINDOWS, "WideCharToMultiByte(CP_UTF8, 0, wide, -1, text",
+     "WideCharToMultiByte(CP_ACP, 0, wide, -1, text"),
+    ("a folder may not be read", WINDOWS, "        return HOST_FOLDER;\n    file",
+     "        return HOST_FORBIDDEN;\n    file"),
+    ("/dev/stdin is no path", WINDOWS, 'INPUT_PATH[] = "/dev/stdin"',
+     'INPUT_PATH[] = "/dev/input"'),
+    ("no two names are one file", WINDOWS,
+     "identify_path(other, other_length, &two) && are_one(&one, &two)", "0 && are_one(&one, &two)"),
+    ("a folder is created", UNIX,
+     "    return file < 0 ? why(errno) : file;\n}\n\nint64_t host_open",
+     "    return file < 0 && errno == EISDIR ? 1 : file < 0 ? why(errno) : file;\n}\n\nint64_t "
+     "host_open"),
+    ("no length is known", UNIX, "S_ISREG(state.st_mode) && state.st_size > 0 ?", "0 ?"),
+    ("a file that another has is missing", WINDOWS,
+     "return file < 0 ? why(errno) : file;\n}\n\nstatic int64_t duplicate",
+     "return file < 0 ? HOST_MISSING : file;\n}\n\nstatic int64_t duplicate"),
+    ("a long path lacks its drive", WINDOWS, "    wcscat(wide, whole);",
+     "    wcscat(wide, whole + 2);"),
+    ("node: a short read taken as whole", NODE,
+     "attempt(() => readSync(Number(file), this.#bytes(room, size)))",
+     "attempt(() => readSync(Number(file), this.#bytes(room, size)) && size)"),
+    ("node: a file that is there is not emptied", NODE, 'opened(this.#text(path, length), "w")',
+     'opened(this.#text(path, length), "a")'),
+    ("node: an argument that is no UTF-8 is U+FFFD", NODE, "Buffer.of(0xff)",
+     'Buffer.from("\\uFFFD")'),
+    ("node: a stream that takes none at the moment fails", NODE,
+     'if (error.code !== "EAGAIN") throw error;', "throw error;"),
+    ("node: no path leads to standard output", NODE, "statOf(this.#streams[OUTPUT])) ? 1 : 0",
+     "null) ? 1 : 0"),
+    ("node: no two paths lead to one file", NODE, "one?.isFile() && areOne",
+     "!one?.isFile() && areOne"),
+    ("node: memory that was given out is given out again", NODE,
+     "    this.#free = end;\n    return place;", "    this.#free = place;\n    return place;"),
     ("node: a folder is missing", NODE, "EISDIR: FOLDER", "EISDIR: MISSING"),
     ("node: standard error goes to standard output", NODE, "[ERROR]: error", "[ERROR]: output"),
+    ("node: the status of a close is lost", NODE,
+     "host_close: (file) => attempt(() => (closeSync(Number(file)), 0)),",
+     "host_close: (file) => (attempt(() => (closeSync(Number(file)), 0)), 0n),"),
+    ("node: a write that is cut off taken as whole", NODE, "return writeSync(file, bytes);",
+     "return (writeSync(file, bytes.subarray(0, 3)), bytes.length);"),
+    ("crate: the status of a close is lost", CRATE, "            answer => Err(error_of(answer)),",
+     "            _ => Ok(()),"),
+    ("crate: a file that was read stays open", CRATE,
+     "    fn drop(self) {\n        let HostFile { number } = self;\n        let _ = "
+     "host::host_close(number);",
+     "    fn drop(self) {\n        let HostFile { number } = self;\n        let _ = number;"),
+    ("crate: standard output is standard error", CRATE, "HostOutput { number: OUTPUT }",
+     "HostOutput { number: ERROR }"),
+    ("crate: standard error is standard output", CRATE, "HostOutput { number: ERROR }",
+     "HostOutput { number: OUTPUT }"),
+    ("crate: a missing file may not be read", CRATE, "MISSING => io::ErrorKind::NotFound",
+     "MISSING => io::ErrorKind::PermissionDenied"),
+    ("crate: a folder is missing", CRATE, "FOLDER => io::ErrorKind::IsADirectory",
+     "FOLDER => io::ErrorKind::NotFound"),
+    ("crate: a file that may not be read is missing", CRATE,
+     "FORBIDDEN => io::ErrorKind::PermissionDenied", "FORBIDDEN => io::ErrorKind::NotFound"),
+    ("crate: a path with a 0 is missing", CRATE, "NO_PATH => io::ErrorKind::InvalidInput",
+     "NO_PATH => io::ErrorKind::NotFound"),
+    ("crate: a count past the room is taken", CRATE, "Ok(n) if n <= most => Ok(n),",
+     "Ok(n) => Ok(n),"),
+    ("crate: a full room is a failure", CRATE, "Ok(n) if n <= most => Ok(n),",
+     "Ok(n) if n < most => Ok(n),"),
+    ("crate: a file of the number 0 is none", CRATE, "    if answer < 0 {", "    if answer <= 0 {"),
+    ("crate: nothing is read", CRATE, "count_of(host::host_read(self.number, buf), buf.len())",
+     "count_of(0, buf.len())"),
+    ("crate: a short write to a file is whole", CRATE,
+     "impl Write for HostFile {\n    fn write(&mut self, buf: &[u8]) -> io::Result<usize> {\n   "
+     "     count_of(host::host_write(self.number, buf), buf.len())",
+     "impl Write for HostFile {\n    fn write(&mut self, buf: &[u8]) -> io::Result<usize> {\n   "
+     "     let _ = host::host_write(self.number, buf);\n        Ok(buf.len())"),
+    ("crate: a short write to a stream is whole", CRATE,
+     "impl Write for HostOutput {\n    fn write(&mut self, buf: &[u8]) -> io::Result<usize> {\n "
+     "       count_of(host::host_write(self.number, buf), buf.len())",
+     "impl Write for HostOutput {\n    fn write(&mut self, buf: &[u8]) -> io::Result<usize> {\n "
+     "       let _ = host::host_write(self.number, buf);\n        Ok(buf.len())"),
+    ("crate: a file that is read is created", CRATE, "host::host_open(path.as_bytes())",
+     "host::host_create(path.as_bytes())"),
+    ("crate: a file that is written is opened", CRATE, "host::host_create(path.as_bytes())",
+     "host::host_open(path.as_bytes())"),
+    ("crate: no two paths lead to one file", CRATE,
+     "host::host_are_one(path.as_bytes(), other.as_bytes()) == 1",
+     "host::host_are_one(path.as_bytes(), other.as_bytes()) == 2"),
+    ("crate: no path leads to standard output", CRATE,
+     "host::host_leads_to_output(path.as_bytes()) == 1",
+     "host::host_leads_to_output(path.as_bytes()) == 2"),
+    ("crate: no length is known", CRATE,
+     "usize::try_from(host::host_length(file.number)).unwrap_or(0)",
+     "if file.number < 0 { 1 } else { 0 }"),
+    ("crate: an argument too early", CRATE, "host::host_arg(i, buf)",
+     "host::host_arg(if i > 0 { i - 1 } else { i }, buf)"),
+    ("crate: the last argument is too long", CRATE, "Err(_) if answer == NO_ARGUMENT =>",
+     "Err(_) if answer != NO_ARGUMENT =>"),
 ]
 
 
-def run(*words, **environment):
-    done = subprocess.run([*map(str, words)], cwd=TOP, env={**__import__("os").environ, **environment}, stdout=subprocess.PIPE, stderr=subprocess.STDOUT)
+def run(*words, folder=TOP, **environment):
+    done = subprocess.run([*map(str, words)], cwd=folder,
+                          env={**os.environ, **environment}, stdout=subprocess.PIPE,
+                          stderr=subprocess.STDOUT)
     return done.returncode, done.stdout.decode(errors="replace")
 
 
-def told_by_program(system, command):
-    """The first difference of .ci/program over this command; None where there is none."""
-    status, printed = run(TOP / ".ci/program", command, RUNNER=system, WINEDEBUG="-all")
-    return f".ci/program: {printed.splitlines()[0][:120]}" if status else None
+def built(*words):
+    status, printed = run(*words)
+    assert status == 0, printed
+
+
+def first(printed, start):
+    """The first line that begins so, or that there is."""
+    lines = printed.splitlines()
+    return next((line for line in lines if line.startswith(start)), lines[0] if lines else "")[:120]
+
+
+def told_by_program(system, command, room):
+    """The first difference of .ci/program over this command, which then need not go on; None where
+    there is none."""
+    environment = {**os.environ, **WINE, "RUNNER": system, "TMPDIR": str(room)}
+    with subprocess.Popen([TOP / ".ci/program", command], cwd=TOP, env=environment,
+                          stdout=subprocess.PIPE, stderr=subprocess.DEVNULL) as program:
+        for line in program.stdout:
+            said = line.decode(errors="replace").strip()
+            ends = (" checks passed", f" were not tried over {system}")
+            if not said.endswith(ends) and not said.startswith("left out: "):
+                program.terminate()
+                return f".ci/program: {said[:120]}"
+    return None if program.returncode == 0 else ".ci/program: its status"
+
+
+def told_by_host_test(folder, *runner):
+    """What is wrong with a host by the program host_test.exe of this folder."""
+    (folder / "empty").mkdir()
+    words = [*runner, folder / "host_test.exe", "one", "two ä"]
+    done = subprocess.run(words, cwd=folder / "empty",
+                          env={**os.environ, **WINE}, stdin=subprocess.DEVNULL, capture_output=True)
+    if done.returncode:
+        said = first(done.stderr.decode(errors="replace"), "host_test: ")
+        return f"host_test.c: {said} (status {done.returncode})"
+    if done.stdout != b"to the output\n":
+        return f"host_test.c: its output is {done.stdout}"
+    return None
+
+
+def told_by_command(folder, archive):
+    """What tells a bug of the command over the host of a Unix, with sanitizers and without."""
+    files = [folder / name for name in ("main.c", COMMON, UNIX, "heap.c")]
+    built(*SANITIZED, *files, TESTS / "failing.c", archive,
+          "-Wl,--gc-sections", *WRAPPED, "-o", folder / "sanitized")
+    built("gcc", "-std=c11", "-O2", *files, archive, "-Wl,--gc-sections", "-o", folder / "pslink")
+    status, printed = run(TESTS / "failing.py", folder / "sanitized", TOP / "samples")
+    if status:
+        return f"failing.py: {first(printed, 'failing: ')}"
+    return (told_by_program("sanitized", folder / "sanitized", folder)
+            or told_by_program("host", folder / "pslink", folder))
 
 
 def in_c(folder):
-    """What tells a bug of the host of a Unix, which is built in this folder."""
-    program = folder / "pslink"
-    files = [folder / name for name in ("main.c", COMMON, UNIX, "heap.c")]
-    status, printed = run("gcc", *SANITIZED, *files, TESTS / "failing.c", OUT / "x86_64/libpslink_command.a", "-Wl,--gc-sections", *WRAPPED, "-o", program)
-    assert status == 0, printed
-    status, printed = run(TESTS / "failing.py", program, TOP / "samples")
-    return f"failing.py: {printed.splitlines()[0][:120]}" if status else told_by_program("sanitized", program)
+    """What tells a bug of the host of a Unix, which is in this folder."""
+    built(*SANITIZED, f"-I{folder}", TESTS / "host_test.c", folder /
+          COMMON, folder / UNIX, "-o", folder / "host_test.exe")
+    return told_by_host_test(folder) or told_by_command(folder, OUT / "x86_64/libpslink_command.a")
 
 
 def on_windows(folder):
     """The same of the host of Windows, by wine."""
     program, objects = folder / "pslink.exe", [OUT / "windows/module.o", OUT / "windows/heap.o"]
-    files = [folder / name for name in ("main.c", COMMON, WINDOWS)]
-    status, printed = run("x86_64-w64-mingw32-gcc", "-std=c11", "-D_WIN32_WINNT=0x0601", "-O2", *files, *objects, "-lshell32", "-Wl,--gc-sections", "-o", program)
-    assert status == 0, printed
+    built(*MINGW, f"-I{folder}", TESTS / "host_test.c", folder / COMMON,
+          folder / WINDOWS, "-lshell32", "-o", folder / "host_test.exe")
+    built(*MINGW, *[folder / name for name in ("main.c", COMMON, WINDOWS)],
+          *objects, "-lshell32", "-Wl,--gc-sections", "-o", program)
     script = folder / "run"
     script.write_text(f'#!/bin/sh\nexec wine {program} "$@"\n')
     script.chmod(0o755)
-    return told_by_program("windows", script)
+    return told_by_host_test(folder, "wine") or told_by_program("windows", script, folder)
 
 
 def over_node(folder):
+    (folder / "empty").mkdir()
+    status, printed = run("node", TESTS / "host_test.mjs", folder / NODE, folder=folder / "empty")
+    if status:
+        return f"host_test.mjs: {first(printed, 'host_test: ')}"
     script = folder / "run"
     script.write_text(f'#!/bin/sh\nexec node {folder}/pslink.mjs "$@"\n')
     script.chmod(0o755)
-    return told_by_program("node", script)
+    shutil.copy(OUT / "pslink_command.wasm", folder)
+    return told_by_program("node", script, folder)
+
+
+def over_crate(folder):
+    """What tells a bug of the crate of this folder: that it is not proved any more, or what tells
+    one of a host."""
+    copy = folder / "copy"
+    for name in ("everywhere", "library"):
+        shutil.copytree(TOP / name, copy / name, ignore=shutil.ignore_patterns("out"))
+    shutil.copy(folder / CRATE, copy / "everywhere/crates/host_files")
+    status, printed = run(copy / "everywhere/build", "x86_64", PROVED=str(TOP))
+    if status:
+        return f"everywhere/build: {first(printed, 'everywhere/build: ')}"
+    for path in C.glob("*.[ch]"):
+        shutil.copy(path, folder)
+    return told_by_command(folder, copy / "everywhere/out/x86_64/libpslink_command.a")
+
+
+def told(name, folder):
+    by = {NODE: over_node, WINDOWS: on_windows, CRATE: over_crate}
+    return by.get(name, in_c)(folder)
 
 
 def untold(bugs):
@@ -128,22 +295,23 @@ def untold(bugs):
     tells."""
     count = 0
     for what, name, text, other in bugs:
-        source = WEB if name == NODE else C
+        source = HOMES[name]
         with tempfile.TemporaryDirectory() as room:
             folder = pathlib.Path(room)
-            for path in [*source.glob("*.[ch]"), *source.glob("*.mjs"), *[OUT / "pslink_command.wasm"] * (name == NODE)]:
-                (folder / path.name).write_bytes(path.read_bytes())
+            for path in [*source.glob("*.[ch]"), *source.glob("*.mjs")]:
+                shutil.copy(path, folder)
             (folder / name).write_text((source / name).read_text().replace(text, other))
-            told = (over_node if name == NODE else on_windows if name == WINDOWS else in_c)(folder)
-        count += told is None
-        print(f"hosts: {what}: {told or 'NOTHING TELLS IT'}", flush=True)
+            teller = told(name, folder)
+        count += teller is None
+        print(f"hosts: {what}: {teller or 'NOTHING TELLS IT'}", flush=True)
     return count
 
 
 def main():
     part = sys.argv[1] if len(sys.argv) > 1 else ""
-    places = [(what, ((WEB if name == NODE else C) / name).read_text().count(text)) for what, name, text, _ in BUGS]
-    found = [f"'{what}' cannot be planted: its text is there {count} times" for what, count in places if count != 1]
+    places = [(what, (HOMES[name] / name).read_text().count(text)) for what, name, text, _ in BUGS]
+    found = [f"'{what}' cannot be planted: its text is there {count} times" for what,
+             count in places if count != 1]
     print("".join(f"hosts: {line}\n" for line in found), end="")
     if found or part == "--texts":
         return 1 if found else 0
