@@ -20,8 +20,11 @@ HOMES = {
     "libc::": "the C library",
     "os::c::": "the kit's own C",
     "page_heap::host::": "`pslink.mjs`",
+    "host_files::host::": "`host.c` or `host.mjs`",
 }
-# What stands unproved beside the proved code, by what is used: files, and files of JavaScript with all that they import.
+HOST = ["everywhere/c/host.c", "everywhere/c/host.h", "everywhere/c/host_parts.h"]
+# What stands unproved beside the proved code, by what is used: files, and files of JavaScript with
+# all that they import.
 PATHS = [
     ("the program", [], []),
     ("the library for C", ["library/*.c", "library/*.h"], []),
@@ -29,13 +32,25 @@ PATHS = [
     ("Rust, over the library", ["library/*.c", "library/*.h", "bindings/rust/src/*.rs"], []),
     ("the module in JavaScript", [], ["web/pslink.mjs"]),
     ("the command for node", [], ["web/pslink.mjs", "web/command.mjs"]),
+    ("the command for Linux on aarch64",
+     [*HOST, "everywhere/c/host_unix.c",
+      "everywhere/c/main.c", "everywhere/c/heap.c"], []),
+    ("the command for Windows",
+     [*HOST, "everywhere/c/host_windows.c",
+      "everywhere/c/main.c", "everywhere/c/heap_windows.ll"], []),
+    ("the command as C, for a Unix",
+     [*HOST, "everywhere/c/host_unix.c",
+      "everywhere/c/module.c", "everywhere/c/instance.h"], []),
+    ("the library as C",
+     ["library/*.c", "library/*.h",
+      "everywhere/c/portable.c", "everywhere/c/instance.h"], []),
     ("the page", [], ["web/page/page.mjs"]),
 ]
 
 
 def verdicts():
     """Of each thing that is built, the words of its verdict and the functions that it assumes."""
-    found = {}
+    found, name = {}, None
     for line in VERDICTS.read_text().splitlines():
         if line.startswith("    "):
             found[name][1].append(line.strip())
