@@ -40,10 +40,11 @@ def in_dos_order(file):
                     for sector in order)
 
 
-def volume(contents, boot=b"", end=6, blocks=0, files=0, entries=b""):
-    """The volume DISK: two boot blocks; four of its directory, which says that it ends before this block, and how many blocks and files
-    there are; and what follows."""
-    head = struct.pack("<3H8s2H", 0, end, 0, b"\4DISK", blocks, files).ljust(26, b"\0")
+def volume(contents, boot=b"", end=6, blocks=0, files=0, entries=b"", name=b"DISK"):
+    """A volume of this name: two boot blocks; four of its directory, which says that it ends before
+    this block, and how many blocks and files there are; and what follows."""
+    head = struct.pack("<3H8s2H", 0, end, 0, bytes([len(name)]) + name, blocks, files).ljust(
+        26, b"\0")
     return boot.ljust(2 * BLOCK, b"\0") + (head + entries).ljust(4 * BLOCK, b"\0") + contents
 
 
