@@ -2,6 +2,7 @@
 For reported_faults.py, reported.py and who checks the same files."""
 import pathlib
 import random
+import re
 import sys
 
 ROOT = pathlib.Path(__file__).resolve().parent.parent
@@ -144,6 +145,14 @@ def beside_native():
 OWN = m.publ_ref("OWN", [1]), m.publ_def("OWN", 1)
 
 
+def counted(many, how, led):
+    """The note of a unit of so many references, all of which lead to operands if they are counted
+    so."""
+    return (f"note: LIB1, segment UTIL: {many} of its {many} references lead to operands if they "
+            f"are counted {how}, and {led} as pslink counts them: "
+            "its compiler may count otherwise; see WARNINGS in pslink(1)")
+
+
 def past_mark(place, words, value=3, following=8, record=0):
     """The warning of an operand of COUNT in the unit."""
     return (f"warning: LIB1, segment UTIL, record {record}: the operand at byte {place} is word "
@@ -198,6 +207,8 @@ def ordered_pair(order, procedures, links=None):
     return HOSTS[order], [library]
 
 
+# A code of four operands, at bytes 1, 4, 7 and 10.
+ZEROS = "A5 80 00 AB 80 00 A5 80 00 AB 80 00"
 # A code that refers to COUNT twice, at bytes 1 and 5, and another with large operands.
 TWICE, LARGE = "A5 80 00 D7 AB 80 00", "A5 80 04 D7 AB 80 80"
 
@@ -269,6 +280,35 @@ EXCHANGED = swapped(unit_with(UNIT_LINKS, slot=1)).replace(b"TULI", b"UTIL")
 LATER_HOST, DISK = of_later_release(HOST), volume(HOST + LIBRARY)
 
 
+def small(file):
+    """The file with the names of the sample pair in small letters."""
+    return re.sub(b"DEMO|UTIL|COUNT|STATE", lambda found: found[0].lower(), file)
+
+
+def native(name, kind=9, *words):
+    """A record that is not linked, EXTPROC if no other type is given."""
+    return m.Record(name, kind, [2, *words])
+
+
+def not_linked(*records, path="LIB1", segment="UTIL"):
+    """The lines of records that are not linked: the index of each, and what it is."""
+    return [f"not linked: {path}, segment {segment}, record {index}: {what}"
+            for index, what in records]
+
+
+# the words for the types of records that are not linked, by their numbers: FORMAT.md, Link
+# information
+NOT_LINKED = {2: "GLOBREF", 5: "CONSTREF", 6: "GLOBDEF", 9: "EXTPROC", 10: "EXTFUNC", 11: "SEPPROC",
+              12: "SEPFUNC", 13: "SEPPREF", 14: "SEPFREF"}
+# what the compiler leaves to the library of the p-System, by the names of its routines
+LEFT_TO_LIBRARY = {"FSEEK": "SEEK",
+                   **dict.fromkeys(("FREADREA", "FWRITERE"),
+                                   "the reading and writing of real numbers"),
+                   **dict.fromkeys(("FREADDEC", "FWRITEDE", "DECOPS"), "long integers")}
+NATIVE_HOST = host_with([m.publ_def("COUNT", 3), native("FWRITERE"), m.eof_mark(8)])
+LATER_NATIVE_HOST = of_later_release(NATIVE_HOST)
+
+
 def in_other_order(file):
     """The file with its sectors of 128 bytes in another order: of each two blocks the second and
     the fourth are exchanged, and so are the fifth and the sixth."""
@@ -299,12 +339,17 @@ LEFT = "bytes of the file are left for it"
 give = lambda name: f"  Give a library that has {name}, after HOST."
 WANTED = ["  No library has the unit that the slot wants.", give("UTIL")]
 REQUESTED = ["  No library has the unit that the UNITREF in this record requests.", give("AUX")]
-whole = lambda advice: f"  Copy LIB1 again, as binary, or compile it again. If it is whole, {advice}"
+whole = lambda advice: ("  Copy LIB1 again, as binary, or compile it again. If it is whole, "
+                        f"{advice}")
+COUNTED = ("  The compiler of LIB1 may count its references otherwise, as the note says. pslink "
+           "links no such file.")
 SMALLER = whole("make the host program's data before this variable smaller.")
 NO_CODE = ["  The host is no code file of release II.0, so nothing is said of its segments."]
-LATER = "a code file of release III.0, which is not supported"
-COMPILE = "  Compile the program of HOST by a compiler of release II.0, and give the code file that it makes."
-NOT_READ = ["  The code is damaged: a part of it was not read, or never written.", "  Copy HOST again, as binary."]
+LATER = "a code file of segments of version 3, which is not supported"
+COMPILE = ("  Compile the program of HOST by a compiler of release II.0, and give the code file "
+           "that it makes.")
+NOT_READ = ["  The code is damaged: a part of it was not read, or never written.",
+            "  Copy HOST again, as binary."]
 
 
 def with_run(start, end, byte, links=None):

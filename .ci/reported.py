@@ -1,17 +1,20 @@
 """Files for `check`, with what a report says of them: for each finding and each thing that is given
 in place of a code file, and files of which nothing is found. For .ci/report."""
 import base64
+import bz2
 import gzip
 import io
-import re
+import lzma
 import zipfile
+import zlib
+
 from report_files import (
     AGAIN, AUX_FILE, AUX_UNIT, BIG_HOST, BIG_LIBRARY, CALLING, CODE, COUNT, DISK, END, HOST, HOSTS,
     LIBRARIES, LIBRARY, LINKED, LINKS, LONG, MIXED, NOP, OTHER_UNIT, OWN, SAMPLES, STATE, TWICE,
-    TWO, UNIT_LINKS, USED, USING, again, beside_four, beside_native, code_file, entry, exchanged,
-    fitting, full_host, host_and, host_with, library_and, linked_segment, long_fitting, lost_quiet,
-    of_bytes, past_mark, short_text, short_unit, slot_of, stripped, text_library, tools, unit_named,
-    unit_with, with_native, with_run, word,
+    TWO, UNIT_LINKS, USED, USING, ZEROS, again, beside_four, beside_native, code_file, counted,
+    entry, exchanged, fitting, full_host, host_and, host_with, library_and, linked_segment,
+    long_fitting, lost_quiet, of_bytes, past_mark, short_text, short_unit, slot_of, small, stripped,
+    text_library, tools, unit_named, unit_with, with_native, with_run, word,
 )
 from descriptions import model as m
 from descriptions.links import code_of
@@ -54,7 +57,7 @@ def words_dump(file):
 def forms():
     """What is given in place of a code file: what it is, its bytes, and what to do with it."""
     boot = bytes(range(1, 256)) * 4
-    head = "  Remove the header: tail -c +{} @ > FILE. Then give FILE."
+    head = "  Remove the header: (set -C; tail -c +{} @ > @.whole). Then give @.whole."
     source = "  Give the code file that the compiler made of @, or of its program."
     lost = "  Copy @ again: nothing of the code file is in it."
     return [
@@ -63,10 +66,22 @@ def forms():
         ("a file of the byte 1A alone", b"\x1a" * 1536, lost),
         ("a file of the byte E5 alone", b"\xe5" * 1536, lost),
         ("a file of the byte FF alone", b"\xff" * 1536, lost),
-        ("a gzip file", gzip.compress(HOST, mtime=0), "  Unpack it: gzip -dc < @ > FILE. Then give FILE."),
-        ("a zip file", zipped(HOST), "  Unpack @ by unzip, and give the code file that is in it."),
-        ("an ELF file, of another system", b"\x7fELF\2\1\1".ljust(1024, b"\7"), "  Give a code file of a p-System in place of @."),
-        ("a code file behind the 128 bytes of a MacBinary header", macbinary(HOST), head.format(129)),
+        ("a gzip file", gzip.compress(HOST, mtime=0),
+         "  Unpack it: (set -C; gzip -dc < @ > @.whole). Then give @.whole."),
+        ("a bzip2 file", bz2.compress(HOST),
+         "  Unpack it: (set -C; bzip2 -dc < @ > @.whole). Then give @.whole."),
+        ("an xz file", lzma.compress(HOST),
+         "  Unpack it: (set -C; xz -dc < @ > @.whole). Then give @.whole."),
+        ("a file of zlib data", zlib.compress(HOST),
+         "  Unpack @ by a program that reads zlib data, as zlib-flate of qpdf does, and give what "
+         "it makes."),
+        ("a zip file", zipped(HOST),
+         "  Unpack @ by unzip, and give the code file that is in it. Of several files in it, "
+         "pslink list says what each is."),
+        ("an ELF file, of another system", b"\x7fELF\2\1\1".ljust(1024, b"\7"),
+         "  Give a code file of a p-System in place of @."),
+        ("a code file behind the 128 bytes of a MacBinary header", macbinary(HOST),
+         head.format(129)),
         ("a code file behind a header of 128 bytes", b"\xff" * 128 + HOST, head.format(129)),
         ("a code file behind a header of 512 bytes", b"\xff" * 512 + HOST, head.format(513)),
         ("an AppleSingle file", apple(0, HOST),
@@ -143,14 +158,23 @@ def warnings():
     mixed = unit_with([END], code_of(MIXED))
     long = m.Segment("LONG", m.LINKED, code_of(MIXED[:900]))
     linked = host_and({8: long, 9: tools(code_of(MIXED[900:1400]))})
-    small = "the name util has small letters, and other names have capitals: it may not be found"
-    spelled = code_file({2: unit_named("UTIL", [m.unit_ref("util", [1]), END], CALLING), 3: unit_named("util")})
-    lost = lambda name, kind, slot=7: f"warning: HOST: slot {slot:02} has the name {name}, kind {kind} and no code: no segment is linked there"
-    misfit = lambda number: f"note: {in_unit}: procedure {number} may be damaged: its instructions do not fit together, as those of the others do"
-    exchange = lambda found, slot: f"its code has segment number {found}, and that of slot {found} has {slot}: the two may be exchanged"
-    twice = lambda start, end: f"bytes {start} to {end} are there twice, one after the other: they may have been read twice"
-    all_one = lambda start, end, byte: f"bytes {start} to {end - 1} of its code are all {byte:02X}: they may not have been read"
-    other_info = lambda found, number: f"its code has segment number {found}, and bytes 256 to 287 of the dictionary have {number} for it: the code may be another one"
+    in_small = lambda name: (f"the name {name} has small letters, and other names have capitals: "
+                             "it may not be found")
+    spelled = code_file({2: unit_named("UTIL", [m.unit_ref("util", [1]), END], CALLING),
+                         3: unit_named("util")})
+    lost = lambda name, kind, slot=7: (f"warning: HOST: slot {slot:02} has the name {name}, kind "
+                                       f"{kind} and no code: no segment is linked there")
+    misfit = lambda number: (f"note: {in_unit}: procedure {number} may be damaged: its "
+                             "instructions do not fit together, as those of the others do")
+    exchange = lambda found, slot: (f"its code has segment number {found}, and that of slot "
+                                    f"{found} has {slot}: the two may be exchanged")
+    twice = lambda start, end: (f"bytes {start} to {end} are there twice, one after the other: "
+                                "they may have been read twice")
+    all_one = lambda start, end, byte: (f"bytes {start} to {end - 1} of its code are all "
+                                        f"{byte:02X}: they may not have been read")
+    other_info = lambda found, number: (f"its code has segment number {found}, and bytes 256 to "
+                                        f"287 of the dictionary have {number} for it: the code may "
+                                        "be another one")
     converted = lambda what: f"note: LIB1: {what}: its line ends may have been converted"
     odd = lambda name, how: f"note: HOST: the name {name} {how}: it may not be found"
     zeros = (f"note: {in_unit}: its code ends with zeros, so it has no procedure and no segment "
@@ -202,7 +226,13 @@ def warnings():
         ([odd("Util", "has small letters, and other names have capitals"),
           odd("Util", "has small letters, and other names have capitals").replace("HOST", "LIB1")],
          HOST.replace(b"UTIL", b"Util"), [LIBRARY.replace(b"UTIL", b"Util")]),
-        ([odd('"DEMO\\x00\\x00\\x00\\x00"', "is padded with zeros where blanks are expected")], changed(plain, (72, b"DEMO\0\0\0\0")), [LIBRARY]),
+        # a pair in small letters, but for the last letter of the alphabet
+        ([f"note: HOST, segment Z, record 0: {in_small('count')}",
+          *(f"note: {path}: {in_small('util')}" for path in ("HOST", "LIB1")),
+          f"note: LIB1, segment util, record 0: {in_small('count')}"],
+         changed(small(HOST), (72, b"Z   ")), [small(LIBRARY)]),
+        ([odd('"DEMO\\x00\\x00\\x00\\x00"', "is padded with zeros where blanks are expected")],
+         changed(plain, (72, b"DEMO\0\0\0\0")), [LIBRARY]),
         ([odd('"DEM\\x01"', "has control bytes")], changed(plain, (75, b"\1")), [LIBRARY]),
         ([odd('"DEM\\x7f"', "has control bytes")], changed(plain, (75, b"\x7f")), [LIBRARY]),
         ([odd('"DEM\\xcf"', "has bytes above 127")], changed(plain, (75, b"\xcf")), [LIBRARY]),
@@ -320,12 +350,29 @@ def warnings():
         (["note: LIB2: it may be a code file whose bytes are exchanged in pairs"], BIG_HOST,
          [BIG_LIBRARY, swapped(LINKED)]),
         # a unit that lost its references, a record behind zeros, and line ends that became others
-        ([f"note: {in_unit}: it has no reference, and 3 operands of two bytes for variables of the program: its references may be lost"], HOST, [unit_with([END], [of_bytes(1, "A5 80 00 A9 80 01 AB 81 02 A5 7F")])]),
-        ([f"note: {in_unit}: its end mark is zeros, and a record of STATE is behind it: records may be lost"], HOST, unit((LINKS, bytes(32)))),
-        ([f"note: {in_host}: its data size of 13 bytes is odd, and the program is entered or left before its code: its table may be damaged"], changed(HOST, (CODE + 4, b"\x0d"), (CODE + 10, b"\x0d")), [LIBRARY]),
+        ([f"note: {in_unit}: it has no reference, and 3 operands of two bytes for variables of the "
+          "program: its references may be lost"], HOST,
+         [unit_with([END], [of_bytes(1, "A5 80 00 A9 80 01 AB 81 02 A5 7F")])]),
+        ([f"note: {in_unit}: its end mark is zeros, and a record of STATE is behind it: records "
+          "may be lost"], HOST, unit((LINKS, bytes(32)))),
+        # the same in a file that ends with its last record, and of names in small letters
+        ([f"note: {in_unit}: its end mark is zeros, and a record of STATE is behind it: records "
+          "may be lost"], HOST, [changed(LIBRARY, (LINKS, bytes(32)))[:1104]]),
+        (["note: LIB1, segment util: its end mark is zeros, and a record of state is behind it: "
+          "records may be lost"], small(HOST), [changed(small(LIBRARY), (LINKS, bytes(32)))]),
+        ([f"note: {in_host}: its data size of 13 bytes is odd, and the program is entered or left "
+          "before its code: its table may be damaged"],
+         changed(HOST, (CODE + 4, b"\x0d"), (CODE + 10, b"\x0d")), [LIBRARY]),
+        # a compiler that counts its references from another place: the file is not to be copied
+        # again
+        ([past_mark(2, 171), clear(2), counted(4, "from one byte earlier", 0)], HOST,
+         [unit_with([m.publ_ref("COUNT", [2, 5, 8, 11]), END], [of_bytes(1, ZEROS)])]),
         ([taken("OLD")], changed(HOST, *entry(8, "OLD", 0, 0, 0)), [USING, USED]),
         ([taken('""')], blank_slot(b" " * 8, 1), [USING, USED]),
-        ([f"note: LIB1, segment UTIL, record 0: {small}", f"note: LIB1: {small}", "warning: LIB1, segment util: another unit of the link is UTIL, nearly the same name"], HOST, [spelled]),
+        ([f"note: LIB1, segment UTIL, record 0: {in_small('util')}",
+          f"note: LIB1: {in_small('util')}",
+          "warning: LIB1, segment util: another unit of the link is UTIL, nearly the same name"],
+         HOST, [spelled]),
         # the lines come in the order of the files and of their entries, whatever they begin with
         ([f"note: LIB1: {twice(1024, 1535)}",
           f"warning: {in_unit}, record 1: the operand at byte 4 is word 2 of a variable that has 1",
@@ -335,11 +382,11 @@ def warnings():
 
 
 def quiet():
-    """Files of which nothing is found: what FORMAT.md allows, the samples, and files beside those of warnings()."""
-    pairs = [("host.code", "library.code"), ("big_host.code", "big_library.code"), ("host.code", "using.code", "used.code"),
-             ("two_units.code",), ("procedures.code", "library.code")]  # fmt: skip
-    names = [b"DEMO", b"UTIL", b"COUNT", b"STATE"]
-    small = lambda file: re.sub(b"|".join(names), lambda found: found[0].lower(), file)
+    """Files of which nothing is found: what FORMAT.md allows, the samples, and files beside those
+    of warnings()."""
+    pairs = [("host.code", "library.code"), ("big_host.code", "big_library.code"),
+             ("host.code", "using.code", "used.code"),
+             ("two_units.code",), ("procedures.code", "library.code")]
     machine = lambda file: changed(file, *((257 + 2 * slot, b"\x42") for slot in range(16)))
     nothing = code_of(NOP)
     once = m.Segment("ONCE", m.LINKED, code_of(MIXED[:400]))
