@@ -62,8 +62,21 @@ def quoted(name):
     return '"' + "".join(chr(byte) if byte in PRINTED else f"\\x{byte:02x}" for byte in name) + '"'
 
 
+def not_linked_lines(document):
+    """The lines of records that are not linked: of the first 16, and how many more there are."""
+    for item in document["unsupported"][:16]:
+        segment, name = (quoted(bytes.fromhex(part["name_hex"]))
+                         for part in (item["segment"], item))
+        of_format = f", of format {item['format']}" if item["format"] is not None else ""
+        yield (f"not linked: {item['path']}, segment {segment}, record {item['record']}: "
+               f"{item['kind']} {name}{of_format}")
+    if more := document["unsupported"][16:]:
+        yield f"not linked: {len(more)} more record{'s' if len(more) > 1 else ''}"
+
+
 def check_lines(document):
-    """The line of the verdict, and those of what is found."""
+    """The line of the verdict, those of records that are not linked, those of segments with
+    references, and those of what is found."""
     fault = document["fault"]
     if document["links"]:
         yield from (f"links: {line}" for line in link_lines(document))
@@ -71,6 +84,11 @@ def check_lines(document):
         yield "either the files link or there is a fault"
     if fault:
         yield from refusal_lines(document)
+    yield from not_linked_lines(document)
+    for item in document["references"]:
+        name = quoted(bytes.fromhex(item["segment"]["name_hex"]))
+        yield (f"references of {name}: {item['operands']} of {item['references']} lead to "
+               f"operands, {item['zeros']} of them to 80 00")
     for item in document["findings"]:
         segment = f", segment {quoted(bytes.fromhex(item['segment']['name_hex']))}" if item[
             "segment"] else ""
