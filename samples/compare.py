@@ -22,17 +22,23 @@ to one segment; definitions of units have no effect; an operand gets the sum of 
 a value, in two bytes with bit 7 set; the offsets of references begin at the segment's first byte;
 the kind of each slot is 0. A linker that chose otherwise is said to be wrong.
 
-What cannot be seen: a wrong displacement in the only reference of a private variable reads as another base offset."""
+Where another way to count the references fits the bytes that LINKED changed better than that of
+pslink, as from one byte earlier, a line says so, also where pslink refuses the files with 31 to 33.
+
+What cannot be seen: a wrong displacement in the only reference of a private variable reads as
+another base offset."""
 import argparse
 import json
 import pathlib
+import re
 import subprocess
 import sys
 import typing
 
 sys.dont_write_bytecode = True
 BLOCK, SLOTS = 512, 16
-NAMES, KINDS, TEXTS, TAIL = 64, 192, 224, 256  # offsets in the dictionary: the names, the kinds, the text addresses, the rest
+# offsets in the dictionary: the names, the kinds, the text addresses, the rest
+NAMES, KINDS, TEXTS, TAIL = 64, 192, 224, 256
 
 
 class Entry(typing.NamedTuple):
@@ -360,17 +366,107 @@ def choices_of_privates(link):
         yield f"the data size is {size}, and {link.document['data']} is enough"
 
 
-# The program ----------------------------------------------------------------------------------------------------------
+# How references are counted
+# -------------------------------------------------------------------------------------------
+
+
+# Where the operand of a reference is, by each way to count: the code has so many bytes, and so many
+# bytes of the file are before it. The first is the way of pslink.
+WAYS = {
+    "the references": lambda reference, length, before: reference,
+    "the references less 1": lambda reference, length, before: reference - 1,
+    "the references plus 1": lambda reference, length, before: reference + 1,
+    "two times the references": lambda reference, length, before: 2 * reference,
+    "the end of the code less the references": lambda reference, length, before: length - reference,
+    "the references less the bytes before the code": lambda reference, length, before: reference
+    - before,
+}
+FROM_PROCEDURE = "the references, from the start of a procedure"
+
+
+class Counted:
+    """The references to variables of a segment, and its code before and after."""
+
+    def __init__(self, references, order, start, before, after):
+        self.references, self.order, self.start, self.before, self.after = (
+            references, order, start, before, after)
+        # (the segment number may change too)
+        self.changed = {at for at, byte in enumerate(before[:-2]) if byte != after[at]}
+
+    def word(self, at):
+        return int.from_bytes(self.before[at : at + 2], self.order)
+
+    def procedures(self):
+        """Where each procedure is entered."""
+        for number in range(1, self.before[-1] + 1):
+            at = len(self.before) - 2 - 2 * number
+            table = at - self.word(at)
+            if self.word(at) and table >= 2:
+                yield table - 2 - self.word(table - 2)
+
+    def places(self, way):
+        if way == FROM_PROCEDURE:
+            return {start + reference
+                    for start in self.procedures()
+                    for reference in self.references}
+        return {WAYS[way](reference, len(self.before), self.start) for reference in self.references}
+
+    def covered(self, way):
+        """How many of the changed bytes are in an operand that has bit 7, as a link leaves it."""
+        marked = {at
+                  for at in self.places(way)
+                  if 0 <= at < len(self.after) - 1 and self.after[at] >= 128}
+        return len(self.changed & {byte for at in marked for byte in (at, at + 1)})
+
+
+def counted(program, paths, linked):
+    """The segments of the files that are in LINKED by their names and lengths, and have references
+    to variables."""
+    order = "little" if any(content_of(paths[0])[KINDS:TEXTS:2]) else "big"
+    there = CodeFile(linked, order)
+    codes = {(entry.name, entry.length): linked[entry.start : entry.end]
+             for entry in there.entries
+             if entry.length}
+    for path in paths:
+        file = CodeFile(content_of(path), order)
+        for slot in printed(program, "show", "--json", "--", path)["slots"] or []:
+            entry, code = file.entries[slot["slot"]], file.code(slot["slot"])
+            after = codes.get((entry.name, entry.length), b"")
+            records = [record
+                       for record in slot["records"] or []
+                       if record["kind"] in ("PUBLREF", "PRIVREF")]
+            references = [reference for record in records for reference in record["references"]]
+            if references and len(code) == len(after) > 1:
+                yield Counted(references, order, entry.start, code, after)
+
+
+def way_of(program, paths, linked):
+    """The line that says how LINKED counts references, where that is clearly not as pslink does."""
+    segments = list(counted(program, paths, linked))
+    changed = sum(len(segment.changed) for segment in segments)
+    covered = {way: sum(segment.covered(way) for segment in segments)
+               for way in [*WAYS, FROM_PROCEDURE]}
+    best = max(covered, key=covered.get)
+    if 15 * changed <= 16 * covered[best] and covered[best] > covered["the references"]:
+        yield f"the bytes that LINKED changed are at {best}: {covered[best]} of {changed}"
+
+
+# The program
+# ----------------------------------------------------------------------------------------------------------
 
 
 class Unsaid(Exception):
     """Why it cannot be said whether a link is right."""
 
+    def __init__(self, reason, lines=()):
+        super().__init__(reason)
+        self.lines = lines
 
-def printed(program, host, libraries):
-    """What pslink prints of a link."""
+
+def printed(program, *arguments):
+    """The document that pslink prints."""
     try:
-        done = subprocess.run([program, "map", "--references", "--json", "--", host, *libraries], stdout=subprocess.PIPE, stderr=subprocess.PIPE)
+        done = subprocess.run([program, *arguments], stdout=subprocess.PIPE, stderr=subprocess.PIPE)
     except OSError as error:
         raise Unsaid(f"cannot run {program}: {error.strerror}")
     if done.returncode:
@@ -389,15 +485,22 @@ def content_of(path):
 
 def compared(given):
     """The lines that say how a link is, and the status."""
-    document = printed(given.pslink, given.host, given.lib)
-    link = Link(document, [content_of(path) for path in (given.host, *given.lib)], content_of(given.linked))
+    paths, linked = [given.host, *given.lib], content_of(given.linked)
+    try:
+        document = printed(given.pslink, "map", "--references", "--json", "--", *paths)
+    except Unsaid as reason:
+        if not re.search(r"refused 3[123] ", str(reason)):
+            raise
+        raise Unsaid(str(reason), list(way_of(given.pslink, paths, linked)))
+    link = Link(document, [content_of(path) for path in paths], linked)
     wrong = list(differences(link))
     if not wrong:
         return [*(f"chosen otherwise: {line}" for line in choices(link)), "a right link"], 0
+    way = list(way_of(given.pslink, paths, linked))
     if given.all:
-        return [*(f"wrong: {line}" for line in wrong), "a wrong link"], 1
+        return [*(f"wrong: {line}" for line in wrong), *way, "a wrong link"], 1
     more = [f"differences: {len(wrong)}; --all prints them"] if wrong[1:] else []
-    return [f"a wrong link: {wrong[0]}", *more], 1
+    return [f"a wrong link: {wrong[0]}", *more, *way], 1
 
 
 def main():
@@ -415,6 +518,7 @@ def main():
         lines, status = compared(parser.parse_intermixed_args())
     except Unsaid as reason:
         print(f"compare: {reason}", file=sys.stderr)
+        print("".join(f"{line}\n" for line in reason.lines), end="")
         return 2
     print(*lines, sep="\n")
     return status
