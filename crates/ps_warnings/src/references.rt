@@ -16,36 +16,35 @@ const FEWEST: usize = 4;
 /// of a variable to the Linker.
 const ZERO_DISPLACEMENT: u16 = 0;
 
-/// How many places a set has: each that a reference can name.
-const PLACES: usize = 0x10000;
-
+/// How many places a word of a set has.
 const BITS: usize = 64;
 
-/// Some of the places that references can name, each a bit.
+/// Some of the places that references can name, each a bit, up to the word of the last one.
 #[derive(Drop)]
 struct PlaceSet<A: Allocator> {
     words: Vec<u64, A>,
 }
 
 impl<A: Allocator> PlaceSet<A> {
-    fn none(alloc: A) -> Result<Self, AllocError> {
-        let mut words = Vec::new(alloc);
-        words.resize(PLACES / BITS, 0u64)?;
-        Ok(PlaceSet { words })
+    fn none(alloc: A) -> Self {
+        PlaceSet {
+            words: Vec::new(alloc),
+        }
     }
 
     /// Adds a place, and says that it is a new one.
-    fn add(&mut self, place: u16) -> bool {
-        let place = usize::from(place);
-        let bit = 1u64 << (place % BITS);
-        match self.words.get_mut(place / BITS) {
-            Some(word) => {
-                let is_new = *word & bit == 0;
-                *word |= bit;
-                is_new
-            }
-            None => false,
+    fn add(&mut self, place: u16) -> Result<bool, AllocError> {
+        let (word, bit) = (usize::from(place) / BITS, usize::from(place) % BITS);
+        if self.words.len() <= word {
+            self.words.resize(word + 1, 0u64)?;
         }
+        let bit = 1u64 << bit;
+        let Some(word) = self.words.get_mut(word) else {
+            return Ok(false);
+        };
+        let is_new = *word & bit == 0;
+        *word |= bit;
+        Ok(is_new)
     }
 
     fn has(&self, place: usize) -> bool {
@@ -71,7 +70,7 @@ impl<A: Allocator + Copy> NamedPlaces<A> {
         let mut named = NamedPlaces {
             references: 0,
             places: Vec::new(alloc),
-            set: PlaceSet::none(alloc)?,
+            set: PlaceSet::none(alloc),
         };
         for (_, record) in records.records() {
             if let Body::PublRef(refs) | Body::PrivRef { refs, .. } = &record.body {
@@ -84,7 +83,7 @@ impl<A: Allocator + Copy> NamedPlaces<A> {
     fn add(&mut self, refs: &Refs<'_>) -> Result<(), AllocError> {
         for reference in 0..refs.len() {
             let place = refs.get(reference);
-            if self.set.add(place) {
+            if self.set.add(place)? {
                 self.places.push(place)?;
             }
         }
