@@ -69,6 +69,7 @@ class Style:
     half: bool = False
     # what a UCSD compiler does not write: a note may be said of it, and no warning
     noted: bool = False
+    words: bool = False  # words of II.1 for the segments: a link leaves out those of libraries
     clear_bits: bool = False  # bit 7 of an operand that a link fills in is 0
     # the words of tables that a link does not read, and lex levels, are any
     free_words: bool = False

@@ -29,7 +29,8 @@ def text_at(*places):
 
 
 def written():
-    """The styles that a UCSD compiler may have: nothing is noted of them."""
+    """The styles that a UCSD compiler may have: nothing is noted of them, but that a link leaves out
+    words of II.1."""
     return [
         Style("plain"),
         Style("plain, for a big-endian machine", order="big"),
@@ -39,9 +40,9 @@ def written():
         Style("a comment at 432", tail=text_at(432)),
         Style("text at 256", tail=text_at(256)),
         Style("text at 296 and at 432", tail=text_at(296, 432)),
-        Style("numbers, machines and versions of slots", tail=told(2, 1)),
-        Style("the same for a big-endian machine", order="big", tail=told(1, 2)),
-        Style("the same with assembled entries", tail=told(2, 2), assembled=True),
+        Style("numbers, machines and versions of slots", tail=told(2, 1), words=True),
+        Style("the same for a big-endian machine", order="big", tail=told(1, 2), words=True),
+        Style("the same with assembled entries", tail=told(2, 2), assembled=True, words=True),
         Style("blocks that are not cleared", cleared=False),
         Style("old records after the end mark", old_records=True),
         Style("words and a name in the end mark", old_mark=True),

@@ -149,6 +149,44 @@ def two_segments(others):
     return code_file({2: own, 5: unit_named("OTHER", [END], long_fitting(8))})
 
 
+def left_out(file, name, place, own, octal):
+    """The note of a unit whose word the linked file leaves 0."""
+    return (f"note: {file}, segment {name}: the linked file has 0 for it at byte {place}, and its "
+            f"own file has {own}: a system of II.1 may not start it; set it by printf '{octal}' | "
+            f"dd of=LINKED bs=1 seek={place} conv=notrunc")
+
+
+def of_release_2_1():
+    """Files with words of II.1 for their segments: a segment number in the low byte, a machine type
+    and a version in the high one."""
+    at = lambda slot: 256 + 2 * slot
+    host = changed(HOST, (at(1), b"\x01\x42"))
+    library = changed(LIBRARY, (at(2), b"\x02\x42"))
+    big = (changed(BIG_HOST, (at(1), b"\x21\x01")), changed(BIG_LIBRARY, (at(2), b"\xe1\x02")))
+    added = changed(library_and({5: unit_named("AUX", [END])}), (at(2), b"\x02\x42\0\0\0\0\5\xa2"))
+    asking = changed(host_with([m.publ_def("COUNT", 3), m.unit_ref("AUX", []), m.eof_mark(8)]),
+                     (at(1), b"\x01\x42"))
+    util = left_out("LIB1", "UTIL", 270, "4202", r"\007\102")
+    intrinsic = lambda path: (f"harmless: {path}: bytes 288 to 291 of its dictionary are not 0: "
+                              "Apple Pascal keeps there which intrinsic units a program uses")
+    return [
+        ([util], host, [library]),
+        ([left_out("LIB1", "UTIL", 270, "E102", r"\341\007")], big[0], [big[1]]),
+        # in the order of their slots: a unit that a slot wants, and one that a record requests
+        ([util, left_out("LIB1", "AUX", 272, "A205", r"\010\242")], asking, [added]),
+        # (the note of the second file alone)
+        ([left_out("LIB2", "UTIL", 270, "4202", r"\007\102")], host,
+         [library.replace(b"UTIL", b"XTIL"), library]),
+        # a machine type without a number
+        ([left_out("LIB1", "UTIL", 270, "4200", r"\007\102")], changed(HOST, (259, b"\x62")),
+         [changed(LIBRARY, (261, b"\x42"))]),
+        *(([intrinsic("HOST")], changed(HOST, (place, b"\x10")), [LIBRARY])
+          for place in (288, 289, 290, 291)),
+        ([intrinsic("HOST"), intrinsic("LIB1"), util], changed(host, (288, b"\1\1\1\1")),
+         [changed(library, (290, b"\x80"))]),
+    ]
+
+
 def warnings():
     """For each finding: the lines, the host and its libraries."""
     in_unit, in_host = "LIB1, segment UTIL", "HOST, segment DEMO"
@@ -190,6 +228,7 @@ def warnings():
     taken = lambda name: ("warning: LIB2, segment AUX: it is added in slot 08, which the host has "
                           f"for {name}: calls of {name} go to it")
     return [
+        *of_release_2_1(),
         (["note: LIB2: it may be a disk image, of the volume DISK"], HOST, [LIBRARY, DISK]),
         (["harmless: LIB1: its last 2 bytes are 1A: it was padded, as by CP/M"], HOST,
          [LIBRARY + b"\x1a\x1a"]),
@@ -434,7 +473,16 @@ def quiet():
         (HOST, [LIBRARY[:1200]]),
         (machine(HOST), [machine(LIBRARY)]),
         (machine(HOST), [LIBRARY]),
-        (changed(HOST, (259, b"\x62")), [changed(LIBRARY, (261, b"\x42"))]),
+        (changed(HOST, (259, b"\x62")), [LIBRARY]),
+        # words of II.1 in one of the files alone, a word for the slot in the host, another machine
+        # in one word of the library, a word of a slot without a code there
+        (changed(HOST, (258, b"\1\x42")), [LIBRARY]),
+        (HOST, [changed(LIBRARY, (260, b"\2\x42"))]),
+        (changed(HOST, (258, b"\1\x42"), (270, b"\7\x42")), [changed(LIBRARY, (260, b"\2\x42"))]),
+        (changed(HOST, (258, b"\1\x42")), [changed(LIBRARY, (260, b"\2\x41"))]),
+        (changed(HOST, (258, b"\1\x42")), [changed(LIBRARY, (260, b"\2\x42\3\x42"))]),
+        # bytes beside those of the set of intrinsic units
+        (changed(HOST, (287, b"\1\0\0\0\0\1")), [LIBRARY]),
         (changed(machine(full_host()), (257 + 2 * 9, b"\x62")), [machine(LIBRARY)]),
         (small(HOST), [changed(small(LIBRARY), (64 + 8 * 5, b"OLD"))]),
         (stripped(46), [LIBRARY]),

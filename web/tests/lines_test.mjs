@@ -45,8 +45,16 @@ const FOUND = [
     12
   ],
   [
+    "harmless: a: bytes 288 to 291 of its dictionary are not 0: Apple Pascal keeps there which intrinsic units a program uses",
+    17
+  ],
+  [
+    "note: a, segment B: the linked file has 0 for it at byte 270, and its own file has 4202: a system of II.1 may not start it; set it by printf '\\007\\102' | dd of=LINKED bs=1 seek=270 conv=notrunc",
+    18
+  ],
+  [
     "harmless: a, segment B, record 0: the unit defines NAME, which has no effect: only the host program defines variables",
-    32
+    34
   ],
 ];
 
@@ -89,7 +97,7 @@ for (const {id, term} of terms) {
   const [, words, weight] = /^(.*) \((\w+)\)$/s.exec(term.replace(/\s+/g, " "));
   same(anchors(`${weight}: a file: ${words}`), [[weight, id]]);
 }
-same(terms.length, 32);
+same(terms.length, 34);
 
 same(shownName("a\nb\u202ec\u200bd\"\\"), '"a\\nb\\u{202e}c\\u{200b}d\\"\\\\"');
 for (const hidden of ["2028", "2029", "34f", "115f", "180f", "206f", "3164", "fe0f", "fff9",

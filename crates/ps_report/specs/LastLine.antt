@@ -5,6 +5,7 @@ use Rattle.std.specs.List.{flat_map, list_any}
 use Rattle.std.specs.Str.{bytes_eq}
 use Rattle.ps_filetype.specs.Shown.{shown_path}
 use Rattle.ps_warnings.specs.Weights.{weight_of}
+use Rattle.ps_warnings.specs.declared.finding.DictionaryFinding.TheVariants as dictionary
 use Rattle.ps_warnings.specs.declared.finding.Finding.{Finding}
 use Rattle.ps_warnings.specs.declared.finding.Finding.TheVariants as which
 use Rattle.ps_warnings.specs.declared.finding.FindingAt.{FindingAt}
@@ -20,9 +21,15 @@ asks Warning = true
 asks Harmless = false
 asks Note = true
 
--- something is to be done about a finding, and it is in the file at this path
+-- what is to be changed is the linked file, and no file that is linked
+abbrev pub is_of_linked_file : Finding → Bool
+is_of_linked_file (which.Dictionary (dictionary.LeftOutWord place high low first second)) = true
+is_of_linked_file other = false
+
+-- something is to be done about the file at this path, by a finding
 abbrev pub asks_for : List ℕ → FindingAt → Bool
-asks_for path f = asks (weight_of f.finding) && bytes_eq f.place.path.now path
+asks_for path f = asks (weight_of f.finding)
+    && (not (is_of_linked_file f.finding) && bytes_eq f.place.path.now path)
 
 -- a compiler may count references otherwise, and it is that of the file at this path: the file need
 -- not be copied or compiled again

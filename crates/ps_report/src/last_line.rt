@@ -2,14 +2,14 @@
 ghost use Rattle.std.specs.Prelude.{◌≡◌, ◌++◌, IfOk, OnOk, codes, map, string_bytes};
 ghost use Rattle.std.specs.List.{list_any};
 ghost use Rattle.ps_check_segments.specs.Paths.{paths_in};
-ghost use Rattle.ps_report.specs.LastLine.{asked_paths, asked_words, asks as asks_spec, asks_for as asks_for_spec, counts_otherwise as counts_otherwise_spec, is_other_count as is_other_count_spec, last_line, line_of_paths};
+ghost use Rattle.ps_report.specs.LastLine.{asked_paths, asked_words, asks as asks_spec, asks_for as asks_for_spec, counts_otherwise as counts_otherwise_spec, is_of_linked_file as is_of_linked_file_spec, is_other_count as is_other_count_spec, last_line, line_of_paths};
 ghost use Rattle.ps_report.specs.Reported.{said};
 
 use crate::finding::SaidFinding;
 use crate::finding_lines::first_line;
 use ps_check_segments::NamedFiles;
 use ps_filetype::ShownPath;
-use ps_warnings::{Finding, FindingAt, OperandFinding, Weight};
+use ps_warnings::{DictionaryFinding, Finding, FindingAt, OperandFinding, Weight};
 use std::alloc::{AllocError, Allocator};
 use std::fmt::Write as _;
 
@@ -23,11 +23,21 @@ fn asks(weight: Weight) -> bool
     }
 }
 
-/// Something is to be done about the finding, and it is in the file at this path.
+/// The finding asks for a change of the linked file, and for none of a file that is linked.
+fn is_of_linked_file(finding: Finding) -> bool
+    ensures { result ≡ is_of_linked_file_spec finding }
+{
+    matches!(
+        finding,
+        Finding::Dictionary(DictionaryFinding::LeftOutWord { .. })
+    )
+}
+
+/// Something is to be done about the file at this path, by the finding.
 pub(crate) fn asks_for(found: &FindingAt<'_>, path: &str) -> bool
     ensures { result ≡ asks_for_spec path.now found.now }
 {
-    asks(found.finding.weight()) && found.place.path == path
+    asks(found.finding.weight()) && !is_of_linked_file(found.finding) && found.place.path == path
 }
 
 /// The finding says that a compiler may count references otherwise.

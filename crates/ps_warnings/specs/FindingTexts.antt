@@ -31,6 +31,11 @@ use Rattle.ps_warnings.specs.declared.finding.RecordFinding.TheVariants as rec
 abbrev pub byte_digits : ℕ → List ℕ
 byte_digits byte = digit_glyph true (byte / 16) ∷ digit_glyph true (byte % 16) ∷ []
 
+-- a byte as `printf` of a shell takes it: a backslash and three octal digits
+unfoldable pub octal_digits : ℕ → List ℕ
+octal_digits byte = 92 ∷ (decimal (byte / 64) ++ (decimal (byte / 8 % 8)
+    ++ decimal (byte % 8)))
+
 -- 1. warnings, and what is harmless
 unfoldable pub entry_text : EntryFinding → List ℕ
 entry_text (entry.EmptySlot slot name kind) = codes "slot " ++ (slot_digits slot
@@ -84,6 +89,14 @@ dictionary_text (dictionary.DeadTail start end byte) = codes "bytes " ++ (decima
 dictionary_text (dictionary.IntrinsicKind slot kind) = codes "slot " ++ (slot_digits slot
     ++ (codes " is of kind " ++ (decimal kind
     ++ codes ", an intrinsic unit of Apple Pascal or its data")))
+dictionary_text dictionary.IntrinsicSet = codes "bytes 288 to 291 of its dictionary are not 0: "
+    ++ codes "Apple Pascal keeps there which intrinsic units a program uses"
+dictionary_text (dictionary.LeftOutWord place high low first second) =
+    codes "the linked file has 0 for it at byte " ++ (decimal place
+    ++ (codes ", and its own file has " ++ (byte_digits high ++ (byte_digits low
+    ++ (codes ": a system of II.1 may not start it; set it by printf '"
+    ++ (octal_digits first ++ (octal_digits second ++ (codes "' | dd of=LINKED bs=1 seek="
+    ++ (decimal place ++ codes " conv=notrunc")))))))))
 
 unfoldable pub name_text : NameFinding → List ℕ
 name_text (name.OddName name oddity) = codes "the name " ++ (shown_name name ++ (codes " "

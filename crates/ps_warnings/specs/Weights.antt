@@ -16,7 +16,7 @@ weight_word Note = codes "note"
 
 -- How much a finding weighs: of the subjects that have definitions, entries, records and the link, a
 -- finding is certain, and a warning but for a unit's definition that has no effect. Each other one is a
--- note, but for bytes that pad a file and an intrinsic unit of Apple Pascal.
+-- note, but for bytes that pad a file, and an intrinsic unit of Apple Pascal or a set of them.
 abbrev pub weight_of : Finding → Weight
 weight_of (finding.Record (rec.UnitDefinition name)) = Harmless
 weight_of (finding.Record f) = Warning
@@ -24,6 +24,7 @@ weight_of (finding.Entry f) = Warning
 weight_of (finding.Link f) = Warning
 weight_of (finding.File (file.Padded bytes)) = Harmless
 weight_of (finding.Dictionary (dictionary.IntrinsicKind slot kind)) = Harmless
+weight_of (finding.Dictionary dictionary.IntrinsicSet) = Harmless
 weight_of other = Note
 
 -- a warning: it is certain, and the link is another one by it

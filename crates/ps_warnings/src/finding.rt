@@ -4,7 +4,7 @@
 ghost use Rattle.std.specs.Prelude.{◌≡◌, Some, false};
 ghost use Rattle.std.specs.Fmt.{WritesOnOk};
 ghost use Rattle.ps_warnings.specs.Places.{place_text, record_words, segment_words};
-ghost use Rattle.ps_warnings.specs.FindingTexts.{byte_digits, code_text, dictionary_text, entry_text, file_text, finding_text, link_text, name_text, operand_text, procedure_text, record_text};
+ghost use Rattle.ps_warnings.specs.FindingTexts.{byte_digits, code_text, dictionary_text, entry_text, file_text, finding_text, link_text, name_text, octal_digits, operand_text, procedure_text, record_text};
 ghost use Rattle.ps_warnings.specs.Found.{is_about_link};
 ghost use Rattle.ps_warnings.specs.Weights.{is_certain as is_certain_spec, weight_of};
 
@@ -25,6 +25,21 @@ impl fmt::Display for ByteDigits {
     fn fmt<W: fmt::Write>(&self, f: &mut Formatter<W>) -> fmt::Result {
         let byte = self.0;
         write!(f, "{byte:02X}")
+    }
+}
+
+/// A byte as `printf` of a shell takes it: in three octal digits.
+#[derive(Clone, Copy)]
+struct OctalByte(u8);
+
+impl fmt::Display for OctalByte {
+    ghost output = { λ byte. Some (octal_digits byte.0) };
+
+    #[tactic(auto, unfolding(crate::specs::FindingTexts::octal_digits))]
+    fn fmt<W: fmt::Write>(&self, f: &mut Formatter<W>) -> fmt::Result {
+        let byte = self.0;
+        let (high, middle, low) = (byte / 64, byte / 8 % 8, byte % 8);
+        write!(f, "\\{high}{middle}{low}")
     }
 }
 
@@ -76,9 +91,29 @@ impl fmt::Display for FileFinding {
 #[derive(Clone, Copy)]
 pub enum DictionaryFinding {
     /// A part of the dictionary may not have been read, which a link copies. Copy the file again.
-    DeadTail { start: usize, end: usize, byte: u8 },
+    DeadTail {
+        start: usize,
+        end: usize,
+        byte: u8,
+    },
     /// Apple Pascal's intrinsic units are not linked. The link passes them over.
-    IntrinsicKind { slot: u8, kind: u16 },
+    IntrinsicKind {
+        slot: u8,
+        kind: u16,
+    },
+    /// A program of Apple Pascal needs these units when it runs. A link copies the host's set.
+    IntrinsicSet,
+    /// A link copies the words of the host alone. Set the word in the linked file, as the command says.
+    LeftOutWord {
+        /// The place of the word in the linked file.
+        place: usize,
+        /// The bytes of the word in the file of the unit.
+        high: u8,
+        low: u8,
+        /// What the two bytes at the place are to be.
+        first: u8,
+        second: u8,
+    },
 }
 
 impl fmt::Display for DictionaryFinding {
@@ -99,6 +134,23 @@ impl fmt::Display for DictionaryFinding {
                 write!(
                     f,
                     "slot {slot} is of kind {kind}, an intrinsic unit of Apple Pascal or its data"
+                )
+            }
+            DictionaryFinding::IntrinsicSet => f.write_str(
+                "bytes 288 to 291 of its dictionary are not 0: Apple Pascal keeps there which intrinsic units a program uses",
+            ),
+            DictionaryFinding::LeftOutWord {
+                place,
+                high,
+                low,
+                first,
+                second,
+            } => {
+                let (high, low) = (ByteDigits(high), ByteDigits(low));
+                let (first, second) = (OctalByte(first), OctalByte(second));
+                write!(
+                    f,
+                    "the linked file has 0 for it at byte {place}, and its own file has {high}{low}: a system of II.1 may not start it; set it by printf '{first}{second}' | dd of=LINKED bs=1 seek={place} conv=notrunc"
                 )
             }
         }
@@ -487,7 +539,9 @@ impl Finding {
         match *self {
             Finding::Record(RecordFinding::UnitDefinition { .. })
             | Finding::File(FileFinding::Padded { .. })
-            | Finding::Dictionary(DictionaryFinding::IntrinsicKind { .. }) => Weight::Harmless,
+            | Finding::Dictionary(
+                DictionaryFinding::IntrinsicKind { .. } | DictionaryFinding::IntrinsicSet,
+            ) => Weight::Harmless,
             Finding::Entry(_)
             | Finding::Link(_)
             | Finding::Record(
@@ -503,7 +557,9 @@ impl Finding {
                 | FileFinding::Converted { .. }
                 | FileFinding::SevenBits,
             )
-            | Finding::Dictionary(DictionaryFinding::DeadTail { .. })
+            | Finding::Dictionary(
+                DictionaryFinding::DeadTail { .. } | DictionaryFinding::LeftOutWord { .. },
+            )
             | Finding::Name(_)
             | Finding::Code(_)
             | Finding::Procedure(_)

@@ -22,6 +22,7 @@ mod numbers;
 mod operands;
 mod procedures;
 mod records;
+mod segment_words;
 
 use crate::finding::{Finding, FindingAt, Place, Unsure};
 pub use counts::add_other_counts;
@@ -261,6 +262,7 @@ fn add_all<'a, A: Allocator>(
         host,
     };
     add_of_files(findings, &context)?;
+    segment_words::look_at(findings, &context)?;
     links::look_at(findings, &context)
 }
 

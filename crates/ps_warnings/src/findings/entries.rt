@@ -10,6 +10,7 @@ ghost use Rattle.ps_warnings.specs.Found.{Adds, about_link};
 ghost use Rattle.ps_check_segments.specs.Paths.{path_of, paths_in};
 ghost use Rattle.ps_check_segments.specs.Seen.{has_slot as has_slot_spec, seen};
 
+use super::segment_words::intrinsic_set;
 use super::{Context, Findings, codes, in_file, in_segment, records};
 use crate::dead::{REPEATED, SECTOR};
 use crate::finding::{DictionaryFinding, EntryFinding, Finding, NameFinding};
@@ -36,7 +37,7 @@ pub(super) fn look_at<'a, A: Allocator>(
         (about_link findings.new)) }
 {
     let place = in_file(context.inputs.path(file));
-    findings.add_unsure(place, dead_tail(dict))?;
+    findings.add_unsure(place, in_tail(dict))?;
     for slot in 0..SLOTS {
         findings.add_unsure(place, odd_name(context, dict, slot))?;
         look_at_slot(findings, context, file, dict, slot)?;
@@ -187,6 +188,12 @@ fn is_intrinsic(entry: &Entry) -> bool
     ensures { result ≡ true → kind_needs_linking entry.now.kind ≡ false }
 {
     matches!(entry.kind, FIRST_INTRINSIC..=LAST_INTRINSIC)
+}
+
+/// What is found in the second half of the dictionary: sectors that were not read, or the intrinsic
+/// units that a program uses.
+fn in_tail(dict: &Dict<'_>) -> Option<DictionaryFinding> {
+    dead_tail(dict).or_else(|| intrinsic_set(dict))
 }
 
 /// Sectors of the second half of the dictionary that were not read. Most files have zeros there.

@@ -14,3 +14,9 @@ unfolding dictionary_text
 returns-in-IntrinsicKind-clause-writes g c = λ plain ok.
     has_written_of_eq _ _ _ _ _ (ap dictionary_text (sym c.in-IntrinsicKind.is))
     (c.write-in-IntrinsicKind.ensures.writes plain ok)
+
+pub returns-in-LeftOutWord-clause-writes : goal.returns-in-LeftOutWord-clause-writes
+unfolding dictionary_text
+returns-in-LeftOutWord-clause-writes g c = λ plain ok.
+    has_written_of_eq _ _ _ _ _ (ap dictionary_text (sym c.in-LeftOutWord.is))
+    (c.write-in-LeftOutWord.ensures.writes plain ok)
