@@ -16,7 +16,9 @@ pub struct CodeType {
     pub order: Order,
 }
 
-/// What a file is for, and its byte order; none where it is no code file as it ought to be.
+/// What a file is for, and its byte order; none where it is no code file as it ought to be. A function
+/// by itself, so that the other texts of a host do not clear its locals.
+#[inline(never)]
 pub(crate) fn code_type_of(file: &[u8]) -> Option<CodeType>
     ensures { result ≡ code_type file.now }
 {
