@@ -18,11 +18,12 @@ EACH = 50  # sets of files that are handed over at once
 TELL = """
 export async function told({answer, reason, fault = null, bytes = new Uint8Array()}) {
   if (answer === null) return [reason];
-  const {status, fault: number, file, record, reference, slot, kind, name} = answer;
+  const {status, fault: number, file, record, reference, slot, kind, about} = answer;
   const {segments, privateWords, blocks, warnings, size} = answer;
   const digest = new Uint8Array(await crypto.subtle.digest("SHA-256", bytes));
-  return [status, number, file, record, reference, slot, kind, name, segments, privateWords, blocks,
-    warnings, size, fault, [...digest].map((it) => it.toString(16).padStart(2, "0")).join("")];
+  return [status, number, file, record, reference, slot, kind, about, segments, privateWords,
+    blocks, warnings, size, fault,
+    [...digest].map((it) => it.toString(16).padStart(2, "0")).join("")];
 }
 export const bytesOf = (text) => Uint8Array.from(atob(text), (it) => it.charCodeAt(0));
 export async function answersOf(pslink, sets) {
