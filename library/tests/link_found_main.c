@@ -1,10 +1,8 @@
 
-#include <stdio.h>
 #include <string.h>
 
-#define FILES 16
+#include "given_files.h"
 
-static unsigned char bytes[FILES][1 << 16];
 static pslink_file shelf[FILES];
 static size_t count;
 
@@ -47,26 +45,10 @@ int main(int argc, char **argv)
 {
     static unsigned char out[PSLINK_LINKED_MAX];
     static pslink_file files[FILES];
-    char text[PSLINK_FAULT_TEXT_MAX];
     pslink_answer answer;
 
-    if (argc < 2 || argc > FILES + 1) {
-        fputs("usage: embed HOST [FILE]..\n", stderr);
-        return 2;
-    }
-    for (; argv[count + 1] != NULL; count++) {
-        FILE *stream = fopen(argv[count + 1], "rb");
-
-        if (stream == NULL)
-            return 3;
-        shelf[count].bytes = bytes[count];
-        shelf[count].length = fread(bytes[count], 1, sizeof bytes[count], stream);
-        fclose(stream);
-    }
+    count = given_files(argc, argv, shelf);
     files[0] = shelf[0];
-    if (link_found(files, FILES, find, out, sizeof out, &answer) == PSLINK_DONE)
-        return fwrite(out, 1, answer.size, stdout) != answer.size || fflush(stdout) != 0;
-    if (pslink_fault_text(&answer, text, sizeof text) != 0)
-        fprintf(stderr, "pslink: %s\n", text);
-    return answer.status == PSLINK_REFUSED ? 1 : 4;
+    link_found(files, FILES, find, out, sizeof out, &answer);
+    return status_of(&answer, out);
 }
