@@ -1,6 +1,7 @@
 /*
- * Files and streams for `pslink volume` over node. Each is done at once and in order, so that one
- * file alone is open at a time.
+ * Files and streams for `pslink volume` and `pslink picture` over node, and what the host of the
+ * program shares with them. Each is done at once and in order, so that one file alone is open at a
+ * time.
  */
 
 import {closeSync, fstatSync, openSync, readSync, realpathSync, statSync, writeSync} from "node:fs";
@@ -10,7 +11,7 @@ import {isatty} from "node:tty";
 /** The longest file that is read, in bytes. */
 const LONGEST = 67108864;
 
-const CHUNK = 65536, MILLISECONDS_TO_WAIT = 5;
+const CHUNK = 65536, MILLISECONDS_TO_WAIT = 5, ERROR = 2;
 
 // control characters, and those that end a line, take no room on it or turn its direction
 const HIDDEN = /[\p{Cc}\p{Zl}\p{Zp}\p{Default_Ignorable_Code_Point}\uFFF9-\uFFFB]/u;
@@ -112,13 +113,18 @@ function writeWhole(file, bytes) {
  * Writes some of the bytes, and gives how many. A stream that takes none at the moment is waited
  * for.
  */
-function writeSome(file, bytes) {
-  try {
-    return writeSync(file, bytes);
-  } catch (error) {
-    if (error.code !== "EAGAIN") throw error;
-    Atomics.wait(new Int32Array(new SharedArrayBuffer(4)), 0, 0, MILLISECONDS_TO_WAIT);
-    return 0;
+export function writeSome(file, bytes) {
+  for (;;) {
+    try {
+      if (bytes.length === 0) return 0;
+      // (a console of Windows shows UTF-8 by node's stream alone, which may come back to the bytes)
+      if (process.platform !== "win32" || !isatty(file)) return writeSync(file, bytes);
+      (file === ERROR ? process.stderr : process.stdout).write(bytes.slice());
+      return bytes.length;
+    } catch (error) {
+      if (error.code !== "EAGAIN") throw error;
+      Atomics.wait(new Int32Array(new SharedArrayBuffer(4)), 0, 0, MILLISECONDS_TO_WAIT);
+    }
   }
 }
 
@@ -156,24 +162,19 @@ export class Streams {
 
   /** Whether a path leads to what standard output is. */
   isOutput(path) {
-    return isOne(statOf(path), statOf(this.#output));
+    return areOne(statOf(path), statOf(this.#output));
   }
 }
 
 function writeStream(file, what) {
-  const bytes = typeof what === "string" ? new TextEncoder().encode(what) : what;
-  // (a console of Windows shows UTF-8 by node's stream alone)
-  if (process.platform === "win32" && isatty(file))
-    (file === 2 ? process.stderr : process.stdout).write(bytes);
-  else
-    writeWhole(file, bytes);
+  writeWhole(file, typeof what === "string" ? new TextEncoder().encode(what) : what);
 }
 
 /** Whether two paths lead to one plain file. Where no file is, they do not. */
 export function leadToOneFile(path, other) {
   const one = statOf(path), two = statOf(other);
   if (!one?.isFile() || !two) return false;
-  return isOne(one, two) || (one.ino === 0n && two.ino === 0n && isSameName(path, other));
+  return areOne(one, two) || (one.ino === 0n && two.ino === 0n && isSameName(path, other));
 }
 
 /** Whether there is a file or a folder at a path. */
@@ -182,7 +183,7 @@ export function isThere(path) {
 }
 
 /** Whether two files are one, by their number and device. The number is 0 where none is known. */
-function isOne(one, other) {
+export function areOne(one, other) {
   return one !== null && other !== null && one.ino !== 0n && one.ino === other.ino &&
     one.dev === other.dev;
 }
@@ -192,7 +193,7 @@ function isSameName(path, other) {
 }
 
 /** What the system says of a file, by its path or its number; null where there is none. */
-function statOf(file) {
+export function statOf(file) {
   try {
     return typeof file === "number" ? fstatSync(file, {bigint: true}) :
                                       statSync(systemPath(file), {bigint: true});

@@ -4,9 +4,8 @@
  * everywhere/crates/host_files/host.rt.txt. Paths are node's strings.
  */
 
-import {closeSync, fstatSync, openSync, readSync, statSync, writeSync} from "node:fs";
-import {isatty} from "node:tty";
-import {systemPath} from "./files.mjs";
+import {closeSync, openSync, readSync} from "node:fs";
+import {areOne, statOf, systemPath, writeSome} from "./files.mjs";
 
 const MISSING = -1, FOLDER = -2, FORBIDDEN = -3, NO_PATH = -4, OTHER = -5;
 const CAUSES = {
@@ -23,7 +22,7 @@ const CAUSES = {
 const NO_ARGUMENT = -1n, TOO_LONG = -2n;
 
 const OUTPUT = 1, ERROR = 2;
-const PAGE_SIZE = 65536, ALIGNMENT = 16, MEMORY_MAX = 2 ** 31, MILLISECONDS_TO_WAIT = 5;
+const PAGE_SIZE = 65536, ALIGNMENT = 16, MEMORY_MAX = 2 ** 31;
 
 /** The functions that one run of the module asks for, and the memory that they work in. */
 export class Host {
@@ -163,39 +162,4 @@ function attempt(work, path = null) {
     return BigInt(
       cause === FORBIDDEN && path !== null && statOf(path)?.isDirectory() ? FOLDER : cause);
   }
-}
-
-/**
- * Writes some of the bytes, and gives how many. A stream that takes none at the moment is waited
- * for.
- */
-function writeSome(file, bytes) {
-  for (;;) {
-    try {
-      if (bytes.length === 0) return 0;
-      // (a console of Windows shows UTF-8 by node's stream alone)
-      if (process.platform !== "win32" || !isatty(file)) return writeSync(file, bytes);
-      (file === ERROR ? process.stderr : process.stdout).write(bytes);
-      return bytes.length;
-    } catch (error) {
-      if (error.code !== "EAGAIN") throw error;
-      Atomics.wait(new Int32Array(new SharedArrayBuffer(4)), 0, 0, MILLISECONDS_TO_WAIT);
-    }
-  }
-}
-
-/** What the system says of a file, by its path or its number; null where there is none. */
-function statOf(file) {
-  try {
-    return typeof file === "number" ? fstatSync(file, {bigint: true}) :
-                                      statSync(systemPath(file), {bigint: true});
-  } catch {
-    return null;
-  }
-}
-
-/** Whether two files are one, by their number and device. The number is 0 where none is known. */
-function areOne(one, other) {
-  return one !== null && other !== null && one.ino !== 0n && one.ino === other.ino &&
-    one.dev === other.dev;
 }

@@ -35,7 +35,6 @@ Exit status:
   2  wrong usage
   3  a file could not be read or written
   4  out of memory`,
-      usage: "pslink picture -o <FILE> <HOST> [LIB]...",
       arguments: [
         {
           id: "HOST",
@@ -49,14 +48,7 @@ Exit status:
           many: true,
           help: "A library to search for units, in the order given"
         },
-        {
-          id: "FILE",
-          long: "output",
-          short: "o",
-          valued: true,
-          required: true,
-          help: "The SVG file to write"
-        },
+        {id: "FILE", long: "output", short: "o", required: true, help: "The SVG file to write"},
       ],
     },
   ],

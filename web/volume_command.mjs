@@ -68,7 +68,6 @@ ${STATUSES}`,
     {
       name: "put",
       about: "Puts a code file onto a copy of the image",
-      usage: "pslink volume put -o <NEWIMAGE> <IMAGE> <FILE> [NAME]",
       ending:
         `The copy is the image with FILE as its file NAME, in place of one that has the name, or
 as a new one. Without NAME it has the name of FILE in capitals. All else in the copy is
@@ -79,14 +78,7 @@ ${STATUSES}`,
         IMAGE,
         {id: "FILE", positional: true, required: true, help: "The code file"},
         {id: "NAME", positional: true, help: "Its name on the volume, as HOST.CODE"},
-        {
-          id: "NEWIMAGE",
-          long: "output",
-          short: "o",
-          valued: true,
-          required: true,
-          help: "The image to write"
-        },
+        {id: "NEWIMAGE", long: "output", short: "o", required: true, help: "The image to write"},
       ],
     },
   ],

@@ -23,10 +23,10 @@ SANITIZED = ["gcc", "-std=gnu11", "-O1",
 
 # What is wrong, the file, the text there, and the text in its place.
 UNIX, COMMON, WINDOWS = "host_unix.c", "host.c", "host_windows.c"
-NODE, CRATE = "host.mjs", "lib.rt.txt"
+NODE, NODE_FILES, CRATE = "host.mjs", "files.mjs", "lib.rt.txt"
 # (wine takes arguments by the locale)
 WINE = {"WINEDEBUG": "-all", "LC_ALL": "C.UTF-8"}
-HOMES = {UNIX: C, COMMON: C, WINDOWS: C, NODE: WEB, CRATE: FILES}
+HOMES = {UNIX: C, COMMON: C, WINDOWS: C, NODE: WEB, NODE_FILES: WEB, CRATE: FILES}
 BUGS = [
     ("a short read taken as whole", UNIX,
      "return count < 0 ? why(errno) : (int64_t)count;\n}\n\nint64_t host_write",
@@ -108,7 +108,7 @@ BUGS = [
      'opened(this.#text(path, length), "a")'),
     ("node: an argument that is no UTF-8 is U+FFFD", NODE, "Buffer.of(0xff)",
      'Buffer.from("\\uFFFD")'),
-    ("node: a stream that takes none at the moment fails", NODE,
+    ("node: a stream that takes none at the moment fails", NODE_FILES,
      'if (error.code !== "EAGAIN") throw error;', "throw error;"),
     ("node: no path leads to standard output", NODE, "statOf(this.#streams[OUTPUT])) ? 1 : 0",
      "null) ? 1 : 0"),
@@ -121,7 +121,7 @@ BUGS = [
     ("node: the status of a close is lost", NODE,
      "host_close: (file) => attempt(() => (closeSync(Number(file)), 0)),",
      "host_close: (file) => (attempt(() => (closeSync(Number(file)), 0)), 0n),"),
-    ("node: a write that is cut off taken as whole", NODE, "return writeSync(file, bytes);",
+    ("node: a write that is cut off taken as whole", NODE_FILES, "return writeSync(file, bytes);",
      "return (writeSync(file, bytes.subarray(0, 3)), bytes.length);"),
     ("crate: the status of a close is lost", CRATE, "            answer => Err(error_of(answer)),",
      "            _ => Ok(()),"),
@@ -286,7 +286,7 @@ def over_crate(folder):
 
 
 def told(name, folder):
-    by = {NODE: over_node, WINDOWS: on_windows, CRATE: over_crate}
+    by = {NODE: over_node, NODE_FILES: over_node, WINDOWS: on_windows, CRATE: over_crate}
     return by.get(name, in_c)(folder)
 
 
