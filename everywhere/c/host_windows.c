@@ -125,37 +125,42 @@ static size_t whole_characters(const unsigned char *bytes, size_t size)
     return needed > back ? size - back : size;
 }
 
+/* What a stream has begun to write to a console: the first bytes of a character. */
+struct begun {
+    unsigned char bytes[4];
+    size_t count;
+};
+
 /* Writes text to a console, which takes UTF-16; a character that is cut off waits for its rest. */
-static int64_t write_console(HANDLE console, const unsigned char *bytes, size_t size)
+static int64_t write_console(HANDLE console, struct begun *begun, const unsigned char *bytes, size_t size)
 {
-    static unsigned char waiting[4];
-    static size_t waits;
     unsigned char text[1024];
     wchar_t wide[1024];
-    const size_t taken = size < sizeof text - sizeof waiting ? size : sizeof text - sizeof waiting;
+    const size_t most = sizeof text - sizeof begun->bytes, taken = size < most ? size : most;
     size_t whole;
     int units;
     DWORD written;
 
-    memcpy(text, waiting, waits);
-    memcpy(text + waits, bytes, taken);
-    whole = whole_characters(text, waits + taken);
+    memcpy(text, begun->bytes, begun->count);
+    memcpy(text + begun->count, bytes, taken);
+    whole = whole_characters(text, begun->count + taken);
     units = whole == 0 ? 0 : MultiByteToWideChar(CP_UTF8, 0, (const char *)text, (int)whole, wide, 1024);
     if (units > 0 && !WriteConsoleW(console, wide, (DWORD)units, &written, NULL))
         return HOST_OTHER;
-    waits = waits + taken - whole;
-    memcpy(waiting, text + whole, waits);
+    begun->count += taken - whole;
+    memcpy(begun->bytes, text + whole, begun->count);
     return (int64_t)taken;
 }
 
 int64_t host_write(int64_t file, const void *bytes, size_t size)
 {
+    static struct begun begun[2];
     const HANDLE handle = (HANDLE)_get_osfhandle((int)file);
     DWORD mode;
     int count;
 
     if ((file == 1 || file == 2) && GetConsoleMode(handle, &mode))
-        return write_console(handle, bytes, size);
+        return write_console(handle, &begun[file - 1], bytes, size);
     count = _write((int)file, bytes, (unsigned)(size < MOST_AT_ONCE ? size : MOST_AT_ONCE));
     return count < 0 ? why(errno) : count;
 }

@@ -1,10 +1,11 @@
 #!/usr/bin/env python3
-"""Plants bugs in copies of the hosts of the command line and of the crate over them, one in each,
-and sees that host_test.c or host_test.mjs, the calls that fail in turn, or the commands of
+"""Plants bugs in copies of the hosts of the command line and of the two crates over them, one in
+each, and sees that host_test.c or host_test.mjs, the calls that fail in turn, or the commands of
 .ci/program tell it. Prints what told each, and each that nothing tells. It takes seconds for each
-of a host, and minutes for each of the crate, which everywhere/build proves anew over the crates
-that the gate proved. Usage: host_bugs.py [PART], of the bugs whose name has PART. host_bugs.py
---texts only sees that each can be planted"""
+of a host, and minutes for each of a crate, which everywhere/build proves anew over the crates that
+the gate proved. Of the crates' functions only those have none that no command calls (`flush`, `var`
+and `var_at`), and those whose type allows one body (`new` and `alloc`). Usage: host_bugs.py [PART],
+of the bugs whose name has PART. host_bugs.py --texts only sees that each can be planted"""
 import os
 import pathlib
 import shutil
@@ -15,7 +16,8 @@ import tempfile
 TESTS = pathlib.Path(__file__).resolve().parent
 TOP = TESTS.parent.parent
 C, WEB, OUT = TESTS.parent / "c", TOP / "web", TESTS.parent / "out"
-FILES = TESTS.parent / "crates/host_files"
+CRATES = TESTS.parent / "crates"
+SECONDS = 60
 WRAPPED = [f"-Wl,--wrap={name}" for name in "read write close open64 stat64 fstat64".split()]
 MINGW = ["x86_64-w64-mingw32-gcc", "-std=c11", "-D_WIN32_WINNT=0x0601", "-O2"]
 SANITIZED = ["gcc", "-std=gnu11", "-O1",
@@ -23,10 +25,12 @@ SANITIZED = ["gcc", "-std=gnu11", "-O1",
 
 # What is wrong, the file, the text there, and the text in its place.
 UNIX, COMMON, WINDOWS = "host_unix.c", "host.c", "host_windows.c"
-NODE, NODE_FILES, CRATE = "host.mjs", "files.mjs", "lib.rt.txt"
+NODE, NODE_FILES = "host.mjs", "files.mjs"
+CRATE, COMMAND = "host_files/lib.rt.txt", "pslink_command/lib.rt.txt"
 # (wine takes arguments by the locale)
 WINE = {"WINEDEBUG": "-all", "LC_ALL": "C.UTF-8"}
-HOMES = {UNIX: C, COMMON: C, WINDOWS: C, NODE: WEB, NODE_FILES: WEB, CRATE: FILES}
+HOMES = {UNIX: C, COMMON: C, WINDOWS: C, NODE: WEB, NODE_FILES: WEB, CRATE: CRATES,
+         COMMAND: CRATES}
 BUGS = [
     ("a short read taken as whole", UNIX,
      "return count < 0 ? why(errno) : (int64_t)count;\n}\n\nint64_t host_write",
@@ -101,6 +105,11 @@ BUGS = [
      "return file < 0 ? HOST_MISSING : file;\n}\n\nstatic int64_t duplicate"),
     ("a long path lacks its drive", WINDOWS, "    wcscat(wide, whole);",
      "    wcscat(wide, whole + 2);"),
+    ("a console gets bytes of UTF-8", WINDOWS, "(file == 1 || file == 2) && GetConsoleMode",
+     "0 && GetConsoleMode"),
+    ("half a character goes to a console", WINDOWS,
+     "return needed > back ? size - back : size;", "return size + 0 * needed;"),
+    ("both streams have one half of a character", WINDOWS, "&begun[file - 1]", "&begun[0]"),
     ("node: a short read taken as whole", NODE,
      "attempt(() => readSync(Number(file), this.#bytes(room, size)))",
      "attempt(() => readSync(Number(file), this.#bytes(room, size)) && size)"),
@@ -117,6 +126,8 @@ BUGS = [
     ("node: memory that was given out is given out again", NODE,
      "    this.#free = end;\n    return place;", "    this.#free = place;\n    return place;"),
     ("node: a folder is missing", NODE, "EISDIR: FOLDER", "EISDIR: MISSING"),
+    ("node: a path with a 0 is another failure", NODE, "ERR_INVALID_ARG_VALUE: NO_PATH",
+     "ERR_INVALID_ARG_VALUE: OTHER"),
     ("node: standard error goes to standard output", NODE, "[ERROR]: error", "[ERROR]: output"),
     ("node: the status of a close is lost", NODE,
      "host_close: (file) => attempt(() => (closeSync(Number(file)), 0)),",
@@ -173,6 +184,17 @@ BUGS = [
      "if file.number < 0 { 1 } else { 0 }"),
     ("crate: an argument too early", CRATE, "host::host_arg(i, buf)",
      "host::host_arg(if i > 0 { i - 1 } else { i }, buf)"),
+    ("crate: an argument that is too long is none", CRATE,
+     "Err(_) => Err(FillError::TooLong),", "Err(_) => Err(FillError::NotPresent),"),
+    ("crate: another failure is a missing file", CRATE, "_ => io::ErrorKind::Other",
+     "_ => io::ErrorKind::NotFound"),
+    ("crate: the command loses the status of a close", CRATE, "        file.close()\n",
+     "        let _ = file.close();\n        Ok(())\n"),
+    ("command: its status is lost", COMMAND,
+     "    u32::from(run_given(&mut files, &mut out, &mut err))",
+     "    let _ = run_given(&mut files, &mut out, &mut err);\n    0"),
+    ("command: its streams are exchanged", COMMAND, "run_given(&mut files, &mut out, &mut err)",
+     "run_given(&mut files, &mut err, &mut out)"),
     ("crate: the last argument is too long", CRATE, "Err(_) if answer == NO_ARGUMENT =>",
      "Err(_) if answer != NO_ARGUMENT =>"),
 ]
@@ -214,14 +236,21 @@ def told_by_program(system, command, room):
 def told_by_host_test(folder, *runner):
     """What is wrong with a host by the program host_test.exe of this folder."""
     (folder / "empty").mkdir()
-    words = [*runner, folder / "host_test.exe", "one", "two ä"]
-    done = subprocess.run(words, cwd=folder / "empty",
-                          env={**os.environ, **WINE}, stdin=subprocess.DEVNULL, capture_output=True)
+    program = [*runner, folder / "host_test.exe"]
+    words = [*program, "one", "two ä"]
+    try:
+        done = subprocess.run(words, cwd=folder / "empty", env={**os.environ, **WINE},
+                              stdin=subprocess.DEVNULL, capture_output=True, timeout=SECONDS)
+    except subprocess.TimeoutExpired:
+        return "host_test.c: it does not end"
     if done.returncode:
         said = first(done.stderr.decode(errors="replace"), "host_test: ")
         return f"host_test.c: {said} (status {done.returncode})"
     if done.stdout != b"to the output\n":
         return f"host_test.c: its output is {done.stdout}"
+    _, shown = run(TESTS / "terminal.py", *program, "terminal", **WINE)
+    if shown != "café5€\ncafé5€\né\né\n":
+        return f"host_test.c: on a terminal stands {shown!r}"
     return None
 
 
@@ -271,12 +300,12 @@ def over_node(folder):
 
 
 def over_crate(folder):
-    """What tells a bug of the crate of this folder: that it is not proved any more, or what tells
+    """What tells a bug of the crates of this folder: that one is not proved any more, or what tells
     one of a host."""
     copy = folder / "copy"
     for name in ("everywhere", "library"):
         shutil.copytree(TOP / name, copy / name, ignore=shutil.ignore_patterns("out"))
-    shutil.copy(folder / CRATE, copy / "everywhere/crates/host_files")
+    shutil.copytree(folder / "crates", copy / "everywhere/crates", dirs_exist_ok=True)
     status, printed = run(copy / "everywhere/build", "x86_64", PROVED=str(TOP))
     if status:
         return f"everywhere/build: {first(printed, 'everywhere/build: ')}"
@@ -286,7 +315,8 @@ def over_crate(folder):
 
 
 def told(name, folder):
-    by = {NODE: over_node, NODE_FILES: over_node, WINDOWS: on_windows, CRATE: over_crate}
+    by = {NODE: over_node, NODE_FILES: over_node, WINDOWS: on_windows, CRATE: over_crate,
+          COMMAND: over_crate}
     return by.get(name, in_c)(folder)
 
 
@@ -300,7 +330,11 @@ def untold(bugs):
             folder = pathlib.Path(room)
             for path in [*source.glob("*.[ch]"), *source.glob("*.mjs")]:
                 shutil.copy(path, folder)
-            (folder / name).write_text((source / name).read_text().replace(text, other))
+            home = folder
+            if source == CRATES:
+                home = folder / "crates"
+                shutil.copytree(CRATES, home)
+            (home / name).write_text((source / name).read_text().replace(text, other))
             teller = told(name, folder)
         count += teller is None
         print(f"hosts: {what}: {teller or 'NOTHING TELLS IT'}", flush=True)

@@ -1,7 +1,7 @@
 /* Calls the functions of a host as no command does, or where a command does not say what they answered: what does not fit, what is no path,
  * a folder that is to be created, a call that a signal breaks off, a file that another has to itself. Works in a folder that is empty, and is
  * called with the arguments `one` and `two ä`. Its standard output is one line, `to the output`. Prints each answer that is otherwise, and
- * then ends with 1. */
+ * then ends with 1. Called with the argument `terminal` it writes four lines, for terminal.py: `café 5 €` twice, and `é` twice. */
 #include "host.h"
 
 #include <stdio.h>
@@ -267,6 +267,8 @@ static void test_system(void)
     is("a pipe", pipe(ends), 0);
     break_off(put_byte);
     is("a read that is broken off", host_read(ends[0], much, sizeof much), 1);
+    /* (one that has nothing in it, also where that read failed) */
+    is("another pipe", pipe(ends), 0);
     is("what fills a pipe", host_write(ends[1], much, sizeof much), sizeof much);
     break_off(take_bytes);
     is("a write that is broken off", host_write(ends[1], much, 1), 1);
@@ -280,9 +282,33 @@ static void test_system(void)
 }
 #endif
 
+/* Writes to both streams, byte by byte and at once; on Windows also to one of them in the middle of a character of the other. */
+static void write_lines(void)
+{
+    static const char line[] = "caf\xC3\xA9 5 \xE2\x82\xAC\n";
+    const size_t length = sizeof line - 1;
+    size_t k;
+
+    for (k = 0; k < length; k++)
+        is("a byte of a line", host_write(1, line + k, 1), 1);
+    is("a line at once", host_write(2, line, length), (int64_t)length);
+#if defined _WIN32
+    is("the first half of a character", host_write(1, "\xC3", 1), 1);
+    is("a line on the other stream", host_write(2, PATH("\xC3\xA9\n")), 3);
+    is("the other half", host_write(1, PATH("\xA9\n")), 2);
+#else
+    is("a line", host_write(2, PATH("\xC3\xA9\n")), 3);
+    is("and another", host_write(1, PATH("\xC3\xA9\n")), 3);
+#endif
+}
+
 int main(int argc, char **argv)
 {
     is("the beginning", host_begin(argc, argv), 1);
+    if (argc == 2 && strcmp(argv[1], "terminal") == 0) {
+        write_lines();
+        return differences > 0;
+    }
     test_arguments();
     test_bytes();
     test_file();
