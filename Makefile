@@ -199,4 +199,5 @@ dist: build lib
 
 # what is built is packed, and is put into releases/VERSION once
 release: build lib page
+	everywhere/build node
 	releases/make
