@@ -205,10 +205,11 @@ static void test_input(void)
     is("two bytes of the input, one after the other", memcmp(room, "te", 2), 0);
 }
 
-/* A file that another has to itself, a path that is no UTF-8, and one that is longer than most of Windows takes. */
+/* A file that another has to itself, a path that is no UTF-8, one that is longer than most of Windows takes, and a device. */
 static void test_system(void)
 {
     const HANDLE held = CreateFileW(L"plain", GENERIC_READ, 0, NULL, OPEN_EXISTING, FILE_ATTRIBUTE_NORMAL, NULL);
+    int64_t file;
 
     is("a file that is held", held != INVALID_HANDLE_VALUE, 1);
     is("a file that another has to itself", host_open(PATH("plain")), HOST_FORBIDDEN);
@@ -217,6 +218,10 @@ static void test_system(void)
     is("a path that is no UTF-8", host_open(PATH("p\xFF")), HOST_NO_PATH);
     make_long_folder();
     put(LETTERS "/" LETTERS "/" LETTERS "/made", "text");
+    put("NUL", "text");
+    file = host_open(PATH("NUL"));
+    is("the length of what the device kept", (int64_t)host_length(file), 0);
+    is("its closing", host_close(file), 0);
     test_input();
 }
 #else
