@@ -303,8 +303,10 @@ def over_crate(folder):
     """What tells a bug of the crates of this folder: that one is not proved any more, or what tells
     one of a host."""
     copy = folder / "copy"
-    for name in ("everywhere", "library"):
+    for name in ("everywhere", "library", "include"):
         shutil.copytree(TOP / name, copy / name, ignore=shutil.ignore_patterns("out"))
+    for name in ("LICENSE", "NOTICES"):
+        shutil.copy(TOP / name, copy)
     shutil.copytree(folder / "crates", copy / "everywhere/crates", dirs_exist_ok=True)
     status, printed = run(copy / "everywhere/build", "x86_64", PROVED=str(TOP))
     if status:
