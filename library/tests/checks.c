@@ -58,13 +58,10 @@ static void check_rooms(enum call call)
     size_t size;
 
     for (size = 0; size <= result->length + 1; size++) {
-        unsigned char *room = (unsigned char *)malloc(size + 1);
+        unsigned char *room = filled_room(size + 1);
         pslink_answer answer;
         uint32_t status;
 
-        if (room == NULL)
-            exit(4);
-        memset(room, FILLER, size + 1);
         memset(&answer, 0xFF, sizeof answer);
         status = make(call, size == 0 ? NULL : room, size, &answer);
         check(status == answer.status, "the status is not the answer's", size);
