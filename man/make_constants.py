@@ -240,7 +240,7 @@ def script():
                            initial_indent="  ", subsequent_indent="  ").removeprefix("  ")
     of_names = ", ".join(f'"{kind.word}"' for kind in NAMES)
     text = between(SCRIPT.read_text(), FAULTS_FROM, said("  [", "],\n"))
-    of_texts = r"(TEXTS = Object\.freeze\(\{\n  __proto__: null,\n  )[^}]*(,\n\})"
+    of_texts = r"(TEXTS = Object\.freeze\(\{\n  )[^}]*(,\n\})"
     return replaced(text, (of_texts, listed), (r"^(const OF_NAMES = .*\[).*(\])", of_names))
 
 

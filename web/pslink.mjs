@@ -47,35 +47,54 @@
  */
 
 /**
- * What a call gives. A report and its findings are done also where the files are refused: `fault`
- * is then the verdict.
- * @typedef {object} Result
- * @property {boolean} done whether there is what was asked for
- * @property {string} status one of STATUSES
- * @property {Answer | null} answer null where the module trapped
- * @property {Uint8Array} [bytes] where it is done: the linked file, or the bytes of the text
- * @property {string} [text] where a text is done
- * @property {string[]} [names] where names of units are done: eight characters each, one a byte
- * @property {"host" | "library" | "linked" | "mixed" | null} [contents] where the type of a file is
- * done: what a code file is for
- * @property {"little" | "big" | null} [order] and its byte order
+ * What a call gives that has done what was asked for. A report and its findings are done also where
+ * the files are refused: `fault` is then the verdict.
+ * @typedef {object} Done
+ * @property {true} done
+ * @property {"done"} status
+ * @property {Answer} answer
+ * @property {Uint8Array} bytes the linked file, or the bytes of the text
  * @property {string} [fault] the line of the fault, as "refused 13 MissingUnit file 0 slot 7"
+ */
+
+/**
+ * What a call gives that has not: `status` says why, and where files are refused `fault`.
+ * @typedef {object} NotDone
+ * @property {false} done
+ * @property {"refused" | "misuse" | "no memory" | "too small" | "wrong names" | "trapped"} status
+ * @property {Answer | null} answer null where the module trapped
+ * @property {string} [fault] the line of the fault
  * @property {string} [reason] where the module trapped: what the engine says of it
  */
+
+/**
+ * What a call gives: `done` says which of the two it is. Where it is done there is also what this
+ * call makes.
+ * @template [Made={}]
+ * @typedef {(Done & Made) | NotDone} Result
+ */
+
+/**
+ * What a code file is for, and its byte order; both are null of what is no code file.
+ * @typedef {object} FileType
+ * @property {"host" | "library" | "linked" | "mixed" | null} contents
+ * @property {"little" | "big" | null} order
+ */
+
+/** @typedef {ArrayBuffer | ArrayBufferView} Bytes */
 
 /** @typedef {{number: number, name: string, meaning: string, remedy: string}} Fault */
 
 /** The texts, by the names of the commands that print them, and their numbers in pslink.h. */
 // clang-format off
 export const TEXTS = Object.freeze({
-  __proto__: null,
   map: 0, references: 1, show: 2, check: 3, list: 4, units: 5, findings: 6, wanted: 7, had: 8,
   type: 9,
 });
 // clang-format on
 
 // those that are names of units
-const OF_NAMES = /** @type {const} */ (["wanted", "had"]);
+const OF_NAMES = ["wanted", "had"];
 
 /** The statuses by their numbers in pslink.h, and "trapped", which has none there. */
 export const STATUSES = Object.freeze({
@@ -230,7 +249,7 @@ export function fault(number) {
 
 /**
  * Compiles the module.
- * @param {BufferSource | Promise<BufferSource>} bytes those of pslink.wasm
+ * @param {Bytes | Promise<Bytes>} bytes those of pslink.wasm
  * @param {{memoryMax?: number}} [options] how many bytes of memory a call has at most
  * @returns {Promise<Linker>}
  */
@@ -242,11 +261,12 @@ export async function load(bytes, {memoryMax = MEMORY_MAX} = {}) {
   return new Linker(module, memoryMax);
 }
 
-/** The functions of the module. Any number of calls may be under way at once. */
-class Linker {
+/** The functions of the module, as `load` gives them. Any number of calls may be under way. */
+export class Linker {
   #module;
   #memoryMax;
 
+  /** @private */
   constructor(module, memoryMax) {
     this.#module = module;
     this.#memoryMax = memoryMax;
@@ -276,7 +296,7 @@ class Linker {
    * @param {keyof typeof TEXTS} kind
    * @param {CodeFile[]} files the host, and then the libraries
    * @param {{json?: boolean}} [options] whether it is a JSON document in place of lines
-   * @returns {Promise<Result>} with `bytes` and `text`
+   * @returns {Promise<Result<{text: string}>>} with `bytes` and `text`
    */
   async text(kind, files, {json = false} = {}) {
     return answered(async () => {
@@ -289,9 +309,9 @@ class Linker {
 
   /**
    * The names of the units that a host wants, or that the first file has.
-   * @param {typeof OF_NAMES[number]} kind
+   * @param {"wanted" | "had"} kind
    * @param {CodeFile[]} files the host, and then the libraries
-   * @returns {Promise<Result>} with `bytes` and `names`
+   * @returns {Promise<Result<{names: string[]}>>} with `bytes`, and `names` of 8 characters
    */
   async units(kind, files) {
     return answered(async () => {
@@ -305,7 +325,7 @@ class Linker {
    * What a file of any contents is for, and its byte order; both are null of a file that is no code
    * file.
    * @param {CodeFile} file
-   * @returns {Promise<Result>} with `bytes`, `contents` and `order`
+   * @returns {Promise<Result<FileType>>} with `bytes`, `contents` and `order`
    */
   async fileType(file) {
     return answered(async () => {
@@ -316,7 +336,7 @@ class Linker {
 
   async #text(kind, files, json) {
     const all = given(files);
-    if (!(kind in TEXTS)) return bare(MISUSE);
+    if (!Object.hasOwn(TEXTS, kind)) return bare(MISUSE);
     const what = TEXTS[kind] + (json ? JSON_FORM : 0);
     const enter = (call, laid, ...rest) =>
       call.enter("pslink_text_nonnull", what, ...laid.contents, ...laid.names, ...rest);

@@ -76,36 +76,55 @@ export function openVolume(bytes) {
   return new Volume(reading);
 }
 
-/** A volume in an image. */
-class Volume {
+/** A volume in an image, which `openVolume` gives. */
+export class Volume {
   #image;
   #directory;
   #end;
 
+  /** @private */
   constructor({image, directory, flaws, notes}) {
     this.#image = image;
     this.#directory = directory;
     this.#end = Math.min(directory.blocks, image.blocks);
     /** @type {string} */
     this.name = directory.entry(0).name;
-    /** The format of the image, as a part of a sentence. @type {string} */
+    /**
+     * The format of the image, as a part of a sentence.
+     * @type {string}
+     */
     this.format = image.format;
     /** @type {boolean} */
     this.bigEndian = directory.bigEndian;
-    /** The blocks of the volume, by its directory. @type {number} */
+    /**
+     * The blocks of the volume, by its directory.
+     * @type {number}
+     */
     this.blocks = directory.blocks;
-    /** Whether there is a duplicate directory. @type {boolean} */
+    /**
+     * Whether there is a duplicate directory.
+     * @type {boolean}
+     */
     this.duplicate = directory.hasDuplicate;
     /**
-     * What is not sound: sentences. Where there is one, nothing is put onto the
-     * volume. @type {readonly string[]}
+     * What is not sound: sentences. Where there is one, nothing is put onto the volume.
+     * @type {readonly string[]}
      */
     this.flaws = Object.freeze(flaws);
-    /** What else a person may want to know of the image: sentences. @type {readonly string[]} */
+    /**
+     * What else a person may want to know of the image: sentences.
+     * @type {readonly string[]}
+     */
     this.notes = Object.freeze(notes);
-    /** The files, in the order of the directory. @type {readonly VolumeFile[]} */
+    /**
+     * The files, in the order of the directory.
+     * @type {readonly VolumeFile[]}
+     */
     this.files = Object.freeze(directory.files().filter(isListed).map(asFile));
-    /** The free blocks in the image, however they lie. @type {number} */
+    /**
+     * The free blocks in the image, however they lie.
+     * @type {number}
+     */
     this.freeBlocks = this.#gaps().reduce((sum, gap) => sum + gap.blocks, 0);
     Object.freeze(this);
   }
