@@ -32,7 +32,7 @@ PAGE = ROOT / "docs/EMBEDDING.md"
 HEAD = "| `what` | What it makes | The program prints it by |\n|---|---|---|\n"
 RUST, PYTHON = ROOT / "bindings/rust/src/lib.rs", ROOT / "bindings/python/pslink/__init__.py"
 OF_RUST, OF_PYTHON = ROOT / "docs/RUST.md", ROOT / "docs/PYTHON.md"
-PACKAGE = ROOT / "bindings/rust/Cargo.toml"
+PACKAGE, OF_NODE = ROOT / "bindings/rust/Cargo.toml", ROOT / "web/package.json"
 # what a status says, by its number
 STATUSES = [
     "done", "the files are refused", "the call is not as pslink.h says", None, "out of memory",
@@ -53,6 +53,7 @@ RELEASES = [
     (HEADER, r"(#define PSLINK_RELEASE_NUMBER )\d+(u)", release.NUMBER),
     (PYTHON, r'^(__version__ = ")[\d.]+(")', release.RELEASE),
     (PACKAGE, r'^(version = ")[\d.]+(")', release.RELEASE),
+    (OF_NODE, r'^(  "version": ")[\d.]+(")', release.RELEASE),
     (RUST, r"^(const LAST_RELEASE_NUMBER: u32 = )\d+(;)", release.LAST_NUMBER),
 ]
 
@@ -339,6 +340,7 @@ def made():
     yield PYTHON, with_release(PYTHON, package())
     yield RUST, with_release(RUST, crate())
     yield PACKAGE, with_release(PACKAGE, PACKAGE.read_text())
+    yield OF_NODE, with_release(OF_NODE, OF_NODE.read_text())
     yield REASONS, with_highest(REASONS, between(REASONS.read_text(), FAULTS_FROM, variants()))
     yield SCHEMA, with_highest(SCHEMA, SCHEMA.read_text())
     yield SAID, "".join(texts())
