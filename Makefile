@@ -7,7 +7,7 @@
 # make test: the gate, which proves and tests everything
 # make lib: proves and builds the library for C
 # make install PREFIX=/opt/pslink: installs the program, the library, their manual pages, the documents, the samples and the bindings; without PREFIX in /usr/local; the library in LIBDIR, which is PREFIX/lib
-# make install-program PREFIX=..: installs the program, its manual pages, the documents, the test vectors, and what shells, make and CMake read, without building the library
+# make install-program PREFIX=..: installs the program, its manual pages, the documents, and what shells, make and CMake read, without building the library
 # make install-library PREFIX=..: installs the library, its header and manual page, what pkg-config and CMake read, the documents, the samples and the bindings, without building the program
 # make uninstall PREFIX=/opt/pslink: removes what that installed
 # make page: proves and builds the library for WebAssembly, web/out/pslink.wasm, and the page with it, web/out/pslink.html
@@ -48,7 +48,7 @@ CALLS = pslink_link pslink_text pslink_fault pslink_fault_text pslink_status psl
 # (and not what someone linked there)
 SAMPLES = README.md make_samples.py relink.py compare.py disk.po big_host.code big_host.map big_library.code host.code host.map library.code \
 	nine.code nine.map procedures.code procedures.map two_units.code two_units.map used.code using.code using.map
-BESIDE = README.md CHANGES.md LICENSE NOTICES $(addprefix samples/,$(SAMPLES)) $(wildcard docs/*.md docs/*.json docs/pictures/*.png man/pslink.* web/README.md) include/pslink.h releases/README.md vectors/README.md \
+BESIDE = README.md CHANGES.md LICENSE NOTICES $(addprefix samples/,$(SAMPLES)) $(wildcard docs/*.md docs/*.json man/pslink.* web/README.md) $(addprefix docs/pictures/,picture.png volume.png) include/pslink.h releases/README.md vectors/README.md \
 	$(addprefix bindings/python/,pyproject.toml build_backend.py LICENSE pslink/__init__.py pslink/py.typed) \
 	$(addprefix bindings/rust/,Cargo.toml build.rs LICENSE src/lib.rs src/file.rs src/file_type.rs src/finding.rs src/name.rs src/raw.rs src/reason.rs tests/calls.rs) \
 	$(wildcard bindings/rust/tests/samples/*)
@@ -141,13 +141,9 @@ install-documents:
 	for file in $(BESIDE); do install -D -m 644 $$file "$(DESTDIR)$(DOC)/$$file" || exit 1; done
 	sed -i 's|](releases/[0-9][^)]*)|](releases/README.md)|' "$(DESTDIR)$(DOC)/README.md"
 
-# the test vectors, and what shells, make and CMake read
+# what shells, make and CMake read
 install-texts:
-	library/folders "$(DESTDIR)" "$(DOC)" "$(DOC)/vectors" "$(INCLUDE)" "$(CONFIG)" "$(BASH_FOLDER)" "$(ZSH_FOLDER)" "$(FISH_FOLDER)"
-	vectors/make_vectors.py "$(DESTDIR)$(DOC)/vectors"
-	install -m 644 vectors/README.md "$(DESTDIR)$(DOC)/vectors/README.md"
-	chmod -R u=rwX,go=rX "$(DESTDIR)$(DOC)/vectors"
-	install -m 755 vectors/run "$(DESTDIR)$(DOC)/vectors/run"
+	library/folders "$(DESTDIR)" "$(DOC)" "$(INCLUDE)" "$(CONFIG)" "$(BASH_FOLDER)" "$(ZSH_FOLDER)" "$(FISH_FOLDER)"
 	install -m 644 completions/pslink.bash "$(DESTDIR)$(BASH_FOLDER)/pslink"
 	install -m 644 completions/_pslink "$(DESTDIR)$(ZSH_FOLDER)/_pslink"
 	install -m 644 completions/pslink.fish "$(DESTDIR)$(FISH_FOLDER)/pslink.fish"
