@@ -49,8 +49,8 @@ CALLS = pslink_link pslink_text pslink_fault pslink_fault_text pslink_status psl
 SAMPLES = README.md make_samples.py relink.py compare.py disk.po big_host.code big_host.map big_library.code host.code host.map library.code \
 	nine.code nine.map procedures.code procedures.map two_units.code two_units.map used.code using.code using.map
 BESIDE = README.md CHANGES.md LICENSE NOTICES $(addprefix samples/,$(SAMPLES)) $(wildcard docs/*.md docs/*.json man/pslink.* web/README.md) $(addprefix docs/pictures/,picture.png volume.png) include/pslink.h releases/README.md vectors/README.md \
-	$(addprefix bindings/python/,pyproject.toml build_backend.py LICENSE pslink/__init__.py pslink/py.typed) \
-	$(addprefix bindings/rust/,Cargo.toml build.rs LICENSE src/lib.rs src/file.rs src/file_type.rs src/finding.rs src/name.rs src/raw.rs src/reason.rs tests/calls.rs) \
+	$(addprefix bindings/python/,pyproject.toml build_backend.py LICENSE README.md pslink/__init__.py pslink/py.typed) \
+	$(addprefix bindings/rust/,Cargo.toml build.rs LICENSE README.md src/lib.rs src/file.rs src/file_type.rs src/finding.rs src/name.rs src/raw.rs src/reason.rs tests/calls.rs) \
 	$(wildcard bindings/rust/tests/samples/*)
 
 .PHONY: try try-test demo build lib check format generated test bench vectors install install-program install-library install-built install-built-program install-built-library install-documents install-texts uninstall dist release page everywhere

@@ -9,10 +9,12 @@ time, of `unknown`, which has one with a status of its own, and of `escapes`, wh
 finding; and a new folder"""
 import array
 import ast
+import base64
 import builtins
 import concurrent.futures
 import copy
 import ctypes
+import hashlib
 import importlib.util
 import inspect
 import json
@@ -21,6 +23,7 @@ import multiprocessing
 import os
 import pathlib
 import pickle
+import re
 import shutil
 import subprocess
 import sys
@@ -191,6 +194,14 @@ def of_refusals():
     named = raised(pslink.Refused, pslink.show, b"")
     check((named.file, named.path) == (0, "file 0"),
           f"the file at fault is {named.file}, {named.path}")
+    # (two that differ in what they are about alone: in slot 7 the host wants another unit)
+    of_util, of_aux, again = (raised(pslink.Refused, pslink.link, host) for host in (
+                                  HOST.read_bytes(), changed(HOST, at120=b"AUX     "),
+                                  HOST.read_bytes()))
+    check((of_util.about, of_aux.about) == (UTIL, AUX) and of_util != of_aux,
+          f"refusals about {of_util.about} and {of_aux.about} are equal")
+    check(of_util == again and len({of_util, of_aux, again}) == 2,
+          "equal refusals are not equal, or have other hashes")
 
 
 def changed(file, **changes):
@@ -489,10 +500,32 @@ def of_editable(build_backend, source):
     check(said == f"{source}/pslink/__init__.py", f"installed as editable: {said}")
 
 
+def of_wheel(path):
+    """A wheel of an archive is for the systems that its library is for, has it and what a reader of
+    it looks for, and each file with its digest and size in RECORD."""
+    check(re.fullmatch(r"pslink-[\d.]+-py3-none-manylinux_2_17_x86_64[.]manylinux2014_x86_64[.]whl",
+                       path.name), f"the wheel of the archive is {path.name}")
+    with zipfile.ZipFile(path) as wheel:
+        files = {name: wheel.read(name) for name in wheel.namelist()}
+    info = f"pslink-{pslink.__version__}.dist-info"
+    library = (BUILT / "libpslink.so.3").read_bytes()
+    check(files.get("pslink/libpslink.so.3") == library, "the wheel has not the library")
+    lines = [f"{name},sha256={base64.urlsafe_b64encode(hashlib.sha256(data).digest()).decode()}"
+             .rstrip("=") + f",{len(data)}" for name, data in files.items()
+             if name != f"{info}/RECORD"]
+    check(files[f"{info}/RECORD"].decode().splitlines() == [*lines, f"{info}/RECORD,,"],
+          "RECORD has other digests or sizes")
+    metadata = files[f"{info}/METADATA"].decode()
+    for line in ("Author: ", "License: MIT\n", "Requires-Python: >=3.8\n", "\n\n# pslink\n"):
+        check(line in metadata, f"METADATA has no {line!r}")
+    check(not any(str(FOLDER).encode() in data for data in files.values()),
+          "the wheel has the path of its builder")
+
+
 def of_archive():
     """In an archive that is unpacked the package finds the shared object of the folder `lib`
-    beside: where it lies, and installed from there. PSLINK_LIBRARY comes before that, and where
-    there is no such folder the system's loader."""
+    beside: where it lies; what is installed from there has it. PSLINK_LIBRARY comes before that,
+    and where there is no such folder the system's loader."""
     archive = FOLDER / "an archive"
     shutil.copytree(PACKAGE, archive / "bindings/python",
                     ignore=shutil.ignore_patterns("__pycache__"))
@@ -507,7 +540,9 @@ def of_archive():
     words = [sys.executable, "-B", "-c", make, str(FOLDER)]
     wheel = subprocess.run(words, capture_output=True, text=True, cwd=archive / "bindings/python",
                            check=True).stdout.strip()
+    of_wheel(FOLDER / wheel)
     zipfile.ZipFile(FOLDER / wheel).extractall(FOLDER / "of archive")
+    shutil.rmtree(archive)
     said = imported(PYTHONPATH=str(FOLDER / "of archive"))
     check(said == f"True {FOLDER}/of archive/pslink/__init__.py",
           f"installed from the archive: {said}")
@@ -551,8 +586,9 @@ def of_installing():
         "of something else": "libc.so.6",
         "that is not there": str(FOLDER / "not there"), "that is none": str(HOST),
     }  # fmt: skip
+    # (also where the loader finds another)
     for what, path in wrong.items():
-        said = imported(PSLINK_LIBRARY=path)
+        said = imported(PSLINK_LIBRARY=path, LD_LIBRARY_PATH=str(BUILT))
         check(said.startswith("ImportError: "), f"a library {what}: {said}")
     of_other_releases()
 

@@ -7,10 +7,11 @@ A file is the path of a code file, which is read; or bytes, or whatever else has
 one; or a pair of a name and one of these. Texts call a file by its name, or else by its path, or
 else `file 0`, `file 1` and so on. The files' fault, if they have one, is raised as `Refused`.
 
-The shared object is the file that PSLINK_LIBRARY names, or else libpslink.so.3 of the folder `lib`
-beside `bindings`, as in an archive of pslink that is unpacked, or else where the system's loader
-finds it, or else where pkg-config has it. If there is none, or one of another interface or one that
-is too old for this package, the import of this package is an ImportError.
+The shared object is the file that PSLINK_LIBRARY names, or else libpslink.so.3 in this package, or
+else in the folder `lib` beside `bindings`, as in an archive of pslink that is unpacked, or else
+where the system's loader finds it, or else where pkg-config has it. If there is none, or one of
+another interface or one that is too old for this package, the import of this package is an
+ImportError.
 """
 
 import array
@@ -108,14 +109,8 @@ def _candidates():
         yield named
         return
     here = os.path.dirname(os.path.abspath(__file__))
-    beside = [os.path.join(here, "..", "..", "..", "lib", _LIBRARY)]
-    try:
-        # (where the package was installed from an archive of pslink: see build_backend.py)
-        with open(os.path.join(here, "beside.txt"), encoding="utf-8") as stream:
-            beside.append(stream.read())
-    except OSError:
-        pass
-    yield from filter(os.path.exists, beside)
+    own = [os.path.join(here, _LIBRARY), os.path.join(here, "..", "..", "..", "lib", _LIBRARY)]
+    yield from filter(os.path.exists, own)
     yield _LIBRARY
     command = [os.environ.get("PKG_CONFIG", "pkg-config"), "--variable=libdir", "pslink"]
     try:
