@@ -13,7 +13,7 @@
 # make page: proves and builds the library for WebAssembly, web/out/pslink.wasm, and the page with it, web/out/pslink.html
 # make everywhere: proves and builds the command for other systems, in everywhere/out: Linux on aarch64, Windows, node, and C for what else there is
 # make dist: packs the same for people without the kit
-# make release: makes the files of a release, in releases/VERSION: the archive of make dist, the page, the module for a browser and for node, and their sums
+# make release: makes the files of a release, in releases/VERSION: the page, the package for node, the archive of make dist, the packages for Python and Rust, and the programs for other systems
 # make vectors: writes the cases of vectors/README.md
 # make bench: times links of large files, of malicious input, and in one process; with OTHER=ARCHIVE also those of another library, below the same library/pslink.c
 PREFIX ?= /usr/local
@@ -194,6 +194,5 @@ dist: build lib
 	library/pack "$(PACKED)" $(DIST) "$(TARBALL)"
 
 # what is built is packed, and is put into releases/VERSION once
-release: build lib page
-	everywhere/build node
+release: build lib page everywhere
 	releases/make
