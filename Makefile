@@ -135,11 +135,12 @@ install-built-program: install-documents install-texts
 	install -m 644 man/pslink.1 "$(DESTDIR)$(MAN)/man1/pslink.1"
 	install -m 644 man/pslink.5 "$(DESTDIR)$(MAN)/man5/pslink.5"
 
-# the documents, the samples, and the sources of the bindings; README links to the files of the release, which stay where they are
+# the documents, the samples, and the sources of the bindings; two pages link to the files of the release, which stay where they are
 install-documents:
 	library/folders "$(DESTDIR)" "$(DOC)"
 	for file in $(BESIDE); do install -D -m 644 $$file "$(DESTDIR)$(DOC)/$$file" || exit 1; done
 	sed -i 's|](releases/[0-9][^)]*)|](releases/README.md)|' "$(DESTDIR)$(DOC)/README.md"
+	sed -i 's|\[\([^]]*\)\]([0-9][^)]*)|\1|' "$(DESTDIR)$(DOC)/releases/README.md"
 
 # what shells, make and CMake read
 install-texts:
